@@ -1,0 +1,2 @@
+-- What a cell's bits say, at any width.
+pub mod Cells
