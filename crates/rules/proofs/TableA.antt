@@ -1,9 +1,9 @@
 -- Table A of document 01's bench examples and its variants, as the seven payloads of a call.
 use mathlib.Core.List.{List, [], _∷_, _++_}
 use Prim.Native.Nat.{ℕ, suc, _-_}
-use lib.ListN.{length, set}
+use lib.ListN.{length, set, replicate}
 use Rattle.words.specs.Words.{le2, le4}
 use Rattle.rules.specs.Tables.{Tables}
 
 -- a list of 16-bit numbers as bytes
 abbrev pub bytes16 : List ℕ → List ℕ
@@ -99,7 +99,19 @@ tables sizes actions gotos productions rights items sets =
 unfoldable pub withActions : List ℕ → Tables
 withActions actions = tables sizesA actions gotosA productionsA rightsA itemsA setsA
 
--- table A with other items
+-- with other gotos
+unfoldable pub withGotos : List ℕ → Tables
+withGotos gotos = tables sizesA actionsA gotos productionsA rightsA itemsA setsA
+
+-- with other productions
+unfoldable pub withProductions : List ℕ → List ℕ → Tables
+withProductions productions rights = tables sizesA actionsA gotosA productions rights itemsA setsA
+
+-- with other sets
+unfoldable pub withSets : List ℕ → Tables
+withSets sets = tables sizesA actionsA gotosA productionsA rightsA itemsA sets
+
+-- with other items
 unfoldable pub withItems : ℕ → List ℕ → Tables
 withItems count items = tables (set sizesA 4 count) actionsA gotosA productionsA rightsA items setsA
 
@@ -109,6 +121,10 @@ tableA = withActions actionsA
 -- "s1 and s5 `;` cells made -1 and -3"
 unfoldable pub tableExtra : Tables
 tableExtra = withActions (set (set actionsA 5 (minus 1)) 21 (minus 3))
+
+-- no transition, no item
+unfoldable pub tableBare : Tables
+tableBare = tables (set sizesA 4 0) (replicate 24 0) (replicate 18 0) productionsA rightsA [] setsA
 
 -- "p4 and its items gone, s4 row 0, error no longer in first sets or lookaheads, s1 error cell -1"
 unfoldable pub tableEarly : Tables

@@ -3,16 +3,15 @@
 use mathlib.Core.List.{List, [], _∷_, _++_, map}
 use mathlib.Core.Path.{_≡_, refl}
 use Prim.Native.Nat.{ℕ, suc}
-use lib.ListN.{length, set, take}
-use Rattle.words.specs.Words.{le2, le4}
+use lib.ListN.{set, take, drop}
 use Rattle.rules.specs.Basics.{text}
 use Rattle.rules.specs.Tables.{Tables}
 use Rattle.rules.specs.Answers.{Limits, Reply, numberOf, rootsOf, placesOf, expectedOf, countsOf, nodesBytes, recordsBytes, bytesOf}
 use Rattle.rules.specs.File.{kindsOf, programLimits}
 use Rattle.rules.specs.declared.Verdict.{Verdict}
 use Rattle.rules.specs.declared.Verdict.the-variants.{Passes, Refused}
-use Rattle.bench.specs.Opened.{judged, replied, written, linesOf}
-use Rattle.bench.specs.TableA.{tableA, tableExtra, tableEarly, withActions, withItems, actionsA, itemsA, fileA, minus}
+use Rattle.rules.proofs.Opened.{judged, replied, written, linesOf}
+use Rattle.rules.proofs.TableA.{tables, tableA, tableExtra, tableEarly, tableBare, withActions, withGotos, withProductions, withSets, withItems, sizesA, actionsA, gotosA, productionsA, rightsA, itemsA, setsA, fileA, minus}
 
 -- "Token n spans n to n+1.": the words of a list of kinds; a is kind 0 and `;` kind 1
 abbrev spelled : ℕ → List ℕ → List ℕ
@@ -160,3 +159,53 @@ pub verdicts :
     ≡ Passes ∷ Passes ∷ Passes ∷ Refused 17 16 ∷ Refused 16 13 ∷ Refused 17 15 ∷ Refused 11 7 ∷ []
 unfolding judged tableA tableExtra tableEarly withActions withItems
 verdicts = refl
+
+-- Beyond the bench: each number, and each clause of it that a small change of table A can show.
+pub refusals :
+    map judged
+    -- 10: flag 2; a set with kind 3
+    (tables (set sizesA 5 2) actionsA gotosA productionsA rightsA itemsA setsA
+    ∷ withSets (set setsA 1 13)
+    -- 11: reduces production 5; a goto enters state 0; a negative goto
+    ∷ withActions (set actionsA 0 (minus 6))
+    ∷ withGotos (set gotosA 1 1)
+    ∷ withGotos (set gotosA 1 (minus 2))
+    -- 12: production 0 over a terminal; nonterminal 0 left of production 1; nonterminal 0 on a right side
+    ∷ withProductions productionsA (set rightsA 0 0)
+    ∷ withProductions (set productionsA 2 0) rightsA
+    ∷ withProductions productionsA (set rightsA 1 3)
+    -- 13: L not nullable; L does not begin with a
+    ∷ withSets (set setsA 33 0)
+    ∷ withSets (set setsA 34 4)
+    -- 14: a dot past the end; an item twice
+    ∷ withItems 21 (set itemsA 30 4)
+    ∷ withItems 21 (set (set itemsA 5 0) 7 3)
+    -- 15: dot 1 in state 0; production 0 at dot 0 in state 1; state 3 is entered over a and not over error; no item (1, 3, 0)
+    ∷ withItems 21 (set itemsA 26 1)
+    ∷ withItems 21 (set itemsA 30 0)
+    ∷ withItems 21 (set itemsA 65 4)
+    ∷ withItems 20 (take 44 itemsA ++ drop 48 itemsA)
+    -- 17: (0, 0, 0, end) missing, at the item count
+    ∷ tableBare
+    ∷ [])
+    ≡
+    Refused 10 0
+    ∷ Refused 10 0
+    ∷ Refused 11 0
+    ∷ Refused 11 25
+    ∷ Refused 11 25
+    ∷ Refused 12 0
+    ∷ Refused 12 1
+    ∷ Refused 12 2
+    ∷ Refused 13 1
+    ∷ Refused 13 2
+    ∷ Refused 14 7
+    ∷ Refused 14 1
+    ∷ Refused 15 6
+    ∷ Refused 15 7
+    ∷ Refused 15 16
+    ∷ Refused 15 15
+    ∷ Refused 17 0
+    ∷ []
+unfolding judged withActions withGotos withProductions withSets withItems tableBare
+refusals = refl

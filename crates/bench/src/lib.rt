@@ -1,1 +1,0 @@
-// The bench examples of document 01 as theorems about the definitions of `rules`: see specs/. This crate has no functions.
