@@ -60,6 +60,14 @@ placesOf OutOfChildren = []
 placesOf OutOfNodes = []
 placesOf OutOfRecords = []
 
+-- the first of an answer's own fields: root, token or location
+abbrev pub firstOf : List ℕ → ℕ
+firstOf [] = 0
+firstOf (n ∷ ns) = n
+
+abbrev pub valueOf : Answer → ℕ
+valueOf a = firstOf (rootsOf a ++ placesOf a)
+
 -- "8 words of expected bits (kind k at bit k mod 32 of word k/32)"
 unfoldable pub expectedWords : Tables → ℕ → List ℕ
 expectedWords T s =
@@ -128,6 +136,12 @@ recordsBytes T (m ∷ ms) = bytesOf (recordWords T m) ++ recordsBytes T ms
 -- "All of 1 to 6 and 19 to 23 carry the units, node, child and record counts."
 unfoldable pub countsOf : Run → List ℕ
 countsOf r = r .units ∷ length (r .nodes) ∷ length (r .children) ∷ length (r .marks) ∷ []
+
+-- The report of an answer, 16 words: number, root, token or location, expected count, units, node, child and record counts, and the
+-- 8 words of expected bits; 0 where the answer has no such field.
+unfoldable pub reportWords : Tables → Answer → Run → List ℕ
+reportWords T a r =
+    numberOf a ∷ firstOf (rootsOf a) ∷ firstOf (placesOf a) ∷ onesOf (expectedOf T a) ∷ (countsOf r ++ expectedOf T a)
 
 -- The limits of a call.
 pub record Limits : Type 0 where
