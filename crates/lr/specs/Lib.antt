@@ -1,0 +1,31 @@
+-- The theory of the rules. `Theorems`, the last, states what is shown. First what a passing check gives, and the plain driver.
+pub mod Each
+pub mod Bools
+pub mod Checked
+pub mod Refusals
+pub mod Stack
+pub mod Invariant
+pub mod Impossible
+pub mod Built
+pub mod Stands
+pub mod Sound
+pub mod Small
+pub mod Complete
+pub mod NoMark
+-- Then runs under limits, with recovery.
+pub mod Steps
+pub mod Runs
+pub mod Limits
+pub mod Stopped
+pub mod Ranges
+pub mod Choice
+pub mod Failing
+pub mod Search
+pub mod Tiles
+pub mod Tiled
+pub mod Ordered
+pub mod Replaced
+pub mod Recovered
+pub mod Written
+pub mod Accounted
+pub mod Theorems

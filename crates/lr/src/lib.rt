@@ -1,0 +1,1 @@
+// The theory of the rules: see specs/. This crate has no functions.
