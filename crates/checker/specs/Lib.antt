@@ -1,0 +1,2 @@
+-- From a scan's place to the verdict.
+pub mod Chain

@@ -1,0 +1,2 @@
+-- What the contracts of `coming` cite: test 15 over single slices.
+pub mod Coming
