@@ -1,0 +1,2 @@
+-- What each call returns, and what it leaves in every lent room.
+pub mod Exit

@@ -1,0 +1,2 @@
+-- Expected kinds over the actions' bytes.
+pub mod Expected
