@@ -6,7 +6,9 @@ use Prim.Native.Nat.{ℕ, _*_, _/_, min}
 use lib.ListN.{length, drop}
 use Rattle.rules.specs.declared.Verdict.{Verdict}
 use Rattle.rules.specs.declared.Verdict.the-variants.{Passes, Refused}
+use Rattle.rules.specs.declared.Answer.{Answer}
 use Rattle.rules.specs.Tables.{Tables}
+use Rattle.rules.specs.Driving.{Run}
 use Rattle.rules.specs.Answers.{Reply, Limits, numberOf, valueOf, nodesBytes, recordsBytes, bytesOf, reportWords}
 use Rattle.chamrolak.specs.declared.Returned.{Returned}
 
@@ -16,7 +18,7 @@ returnedOf Passes = record { number = 0; value = 0 }
 returnedOf (Refused number place) = record { number = number; value = place }
 
 -- the lent rooms
-pub record Rooms : Type 0 where
+pub record Lent : Type 0 where
   pub stack : List ℕ
   pub scratch : List ℕ
   pub nodes : List ℕ
@@ -24,9 +26,13 @@ pub record Rooms : Type 0 where
   pub records : List ℕ
   pub report : List ℕ
 
+abbrev pub lent : List ℕ → List ℕ → List ℕ → List ℕ → List ℕ → List ℕ → Lent
+lent stack scratch nodes children records report =
+    record { stack = stack; scratch = scratch; nodes = nodes; children = children; records = records; report = report }
+
 -- "its limit is the shorter of stack and scratch room. The rest are lent lengths in whole entries."
-abbrev pub limitsOf : Rooms → ℕ → Limits
-limitsOf b budget =
+abbrev pub limitsIn : Lent → ℕ → Limits
+limitsIn b budget =
     record {
       budget = budget;
       depth = min (length (b .stack) / 32) (length (b .scratch) / 4);
@@ -36,28 +42,27 @@ limitsOf b budget =
     }
 
 -- "Refusals 10 to 18 touch no buffer."
-pub record Refusing (number place : ℕ) (r : Returned) (b e : Rooms) : Type 0 where
+pub record Refusing (number place : ℕ) (r : Returned) (b e : Lent) : Type 0 where
   pub numbered : r .number ≡ number
   pub placed : r .value ≡ place
   pub untouched : e ≡ b
 
--- "Past the counts, buffers are unchanged."
-pub record Answering (T : Tables) (number value : ℕ) (nodes children records report : List ℕ) (r : Returned) (b e : Rooms) : Type 0 where
-  pub numbered : r .number ≡ number
-  pub valued : r .value ≡ value
-  pub nodes-left : e .nodes ≡ nodes ++ drop (length nodes) (b .nodes)
-  pub children-left : e .children ≡ children ++ drop (length children) (b .children)
-  pub records-left : e .records ≡ records ++ drop (length records) (b .records)
-  pub report-left : e .report ≡ report
+-- "A stopped run leaves what the steps before it wrote. Past the counts, buffers are unchanged."
+pub record Answering (T : Tables) (a : Answer) (run : Run) (r : Returned) (b e : Lent) : Type 0 where
+  pub numbered : r .number ≡ numberOf a
+  pub valued : r .value ≡ valueOf a
+  pub nodes-left : e .nodes ≡ nodesBytes (run .nodes) ++ drop (32 * length (run .nodes)) (b .nodes)
+  pub children-left : e .children ≡ bytesOf (run .children) ++ drop (4 * length (run .children)) (b .children)
+  pub records-left : e .records ≡ recordsBytes T (run .marks) ++ drop (64 * length (run .marks)) (b .records)
+  pub report-left : e .report ≡ bytesOf (reportWords T a run)
 
-abbrev pub Left : Tables → Reply → Returned → Rooms → Rooms → Type 0
-Left T (Reply.refused number place) r b e = Refusing number place r b e
-Left T (Reply.answered a run) r b e =
-    Answering T (numberOf a) (valueOf a) (nodesBytes (run .nodes)) (bytesOf (run .children)) (recordsBytes T (run .marks))
-    (bytesOf (reportWords T a run)) r b e
+-- what is returned, and what the rooms b have become
+abbrev pub Leaves : Tables → Reply → Returned → Lent → Lent → Type 0
+Leaves T (Reply.refused number place) r b e = Refusing number place r b e
+Leaves T (Reply.answered a run) r b e = Answering T a run r b e
 
 -- what the host may look at
-pub record Same (r s : Returned) (e f : Rooms) : Type 0 where
+pub record Same (r s : Returned) (e f : Lent) : Type 0 where
   pub returned : r ≡ s
   pub nodes : e .nodes ≡ f .nodes
   pub children : e .children ≡ f .children
@@ -68,7 +73,7 @@ same-returned : (r s : Returned) → r .number ≡ s .number → r .value ≡ s 
 same-returned r s p q = λ i. record { number = p i; value = q i }
 
 -- "any two results the wording admits are shown equal"
-pub one-result : (T : Tables) (reply : Reply) (r s : Returned) (b e f : Rooms) → Left T reply r b e → Left T reply s b f → Same r s e f
+pub one-result : (T : Tables) (reply : Reply) (r s : Returned) (b e f : Lent) → Leaves T reply r b e → Leaves T reply s b f → Same r s e f
 one-result T (Reply.refused number place) r s b e f x y =
     record {
       returned = same-returned r s (x .numbered ∙ sym (y .numbered)) (x .placed ∙ sym (y .placed));

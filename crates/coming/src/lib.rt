@@ -7,7 +7,7 @@ ghost use lib.Dec.{eqb};
 ghost use Rattle.rules.specs.Tables.{goesTo, itemCount};
 ghost use Rattle.rules.specs.Check.{ok15};
 ghost use Rattle.tables.specs.Rights.{startIn, symbolIn};
-ghost use Rattle.tables.specs.Places.{callTables, firstBad};
+ghost use Rattle.tables.specs.Places.{callTables, firstBad, found};
 ghost use Rattle.tables.specs.Fit.{Fit};
 ghost use Rattle.items.specs.Bounds.{Grid};
 ghost use Rattle.items.specs.Lookup.{Listed};
@@ -349,7 +349,7 @@ pub fn scan15(
 ) -> Place
     requires { ⌜ Fit (callTables (now sizes) (now actions) (now gotos) (now productions) (now rights) (now items) (now sets)) ⌝ }
     requires { ⌜ Listed (now items) (itemCount (callTables (now sizes) (now actions) (now gotos) (now productions) (now rights) (now items) (now sets))) ⌝ }
-    ensures { λ r. ⌜ r ≡ firstBad (ok15 (callTables (now (sizes .entry)) (now (actions .entry)) (now (gotos .entry)) (now (productions .entry)) (now (rights .entry)) (now (items .entry)) (now (sets .entry)))) 0 (itemCount (callTables (now (sizes .entry)) (now (actions .entry)) (now (gotos .entry)) (now (productions .entry)) (now (rights .entry)) (now (items .entry)) (now (sets .entry)))) ⌝ }
+    ensures { λ r. ⌜ r ≡ found ok15 itemCount (callTables (now (sizes .entry)) (now (actions .entry)) (now (gotos .entry)) (now (productions .entry)) (now (rights .entry)) (now (items .entry)) (now (sets .entry))) ⌝ }
 {
     let states = word16(sizes, 0) as usize;
     let kinds = word16(sizes, 2) as usize;

@@ -22,6 +22,10 @@ use Rattle.items.specs.Ranges.{case-of}
 use Rattle.items.specs.Lookup.{stateIn, productionIn, dotIn, lookaheadIn, hasIn, has-item-for}
 use Rattle.items.specs.Moves.{moveIn, move-in}
 
+-- "item; item count where (0, 0, 0, end) is missing, tested last": the places of 17
+abbrev pub placeCount : Tables → ℕ
+placeCount T = itemCount T + 1
+
 -- "each b that can begin what follows B and then a": what follows are the l symbols from a place on, and `empty` says whether they
 -- can all be nothing
 unfoldable pub canBeginIn : List ℕ → List ℕ → ℕ → ℕ → ℕ → Bool → ℕ → ℕ → Bool
@@ -75,7 +79,7 @@ unfoldable pub followUpsIn : List ℕ → List ℕ → List ℕ → List ℕ →
 followUpsIn actions gotos productions rights items sets n t m k count s p d a =
     dotFollows actions gotos productions rights items sets n t m k count s p d a && hasGotoIn gotos productions n m s p d
 
--- "item; item count where (0, 0, 0, end) is missing, tested last"
+-- 17 at a place: an item, or the item count
 unfoldable pub fits17 : List ℕ → List ℕ → List ℕ → List ℕ → List ℕ → List ℕ → ℕ → ℕ → ℕ → ℕ → ℕ → ℕ → Bool
 fits17 actions gotos productions rights items sets n t m k count i =
     pick (ltb i count)

@@ -6,12 +6,12 @@ ghost use Rattle.rules.specs.Tables.{isShift, itemCount};
 ghost use Rattle.rules.specs.Check.{reduces, ok17};
 ghost use Rattle.tables.specs.Readers.{cellIn};
 ghost use Rattle.tables.specs.Rights.{startIn, symbolIn};
-ghost use Rattle.tables.specs.Places.{callTables, firstBad};
+ghost use Rattle.tables.specs.Places.{callTables, firstBad, found};
 ghost use Rattle.tables.specs.Fit.{Fit};
 ghost use Rattle.items.specs.Bounds.{Grid};
 ghost use Rattle.items.specs.Lookup.{stateIn, productionIn, dotIn, lookaheadIn, Listed};
 ghost use Rattle.items.specs.Moves.{moveIn};
-ghost use Rattle.following.specs.Following.{canBeginIn, opensWith, opensEach, opensBy, opensIn, opensAfter, movesOnIn, followsIn, dotFollows, hasGotoIn, followUpsIn, fits17};
+ghost use Rattle.following.specs.Following.{placeCount, canBeginIn, opensWith, opensEach, opensBy, opensIn, opensAfter, movesOnIn, followsIn, dotFollows, hasGotoIn, followUpsIn, fits17};
 use items::has_item;
 use items::item_dot;
 use items::item_lookahead;
@@ -696,7 +696,7 @@ pub fn scan17(
 ) -> Place
     requires { ⌜ Fit (callTables (now sizes) (now actions) (now gotos) (now productions) (now rights) (now items) (now sets)) ⌝ }
     requires { ⌜ Listed (now items) (itemCount (callTables (now sizes) (now actions) (now gotos) (now productions) (now rights) (now items) (now sets))) ⌝ }
-    ensures { λ r. ⌜ r ≡ firstBad (ok17 (callTables (now (sizes .entry)) (now (actions .entry)) (now (gotos .entry)) (now (productions .entry)) (now (rights .entry)) (now (items .entry)) (now (sets .entry)))) 0 (itemCount (callTables (now (sizes .entry)) (now (actions .entry)) (now (gotos .entry)) (now (productions .entry)) (now (rights .entry)) (now (items .entry)) (now (sets .entry))) + 1) ⌝ }
+    ensures { λ r. ⌜ r ≡ found ok17 placeCount (callTables (now (sizes .entry)) (now (actions .entry)) (now (gotos .entry)) (now (productions .entry)) (now (rights .entry)) (now (items .entry)) (now (sets .entry))) ⌝ }
 {
     let states = word16(sizes, 0) as usize;
     let kinds = word16(sizes, 2);

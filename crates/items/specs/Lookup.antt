@@ -14,9 +14,8 @@ use Rattle.rules.specs.Basics.{anyBelow}
 use Rattle.rules.specs.Tables.{Tables, itemCount, Item, itemAt}
 use Rattle.rules.specs.Check.{isAt, before, hasItem, hasItemFor, itemFits, ascends, ok14}
 use Rattle.tables.specs.declared.Place.the-variants.{Nowhere}
-use Rattle.tables.specs.Places.{firstBad}
+use Rattle.tables.specs.Places.{firstBad, good-at}
 use Rattle.tables.specs.Fit.{Fit, and-left, and-right}
-use Rattle.items.specs.Ranges.{none-bad}
 
 -- "An item is (state, production, dot, lookahead column)."
 abbrev pub stateIn : List ℕ → ℕ → ℕ
@@ -39,10 +38,6 @@ itemIn items i =
       dot = dotIn items i;
       lookahead = lookaheadIn items i;
     }
-
-pub item-in : (T : Tables) (i : ℕ) → itemAt T i ≡ itemIn (T .items) i
-unfolding itemAt
-item-in T i = refl
 
 -- is item i of this state, production and dot, and has it this lookahead, or may it have any
 unfoldable pub matches : List ℕ → ℕ → ℕ → ℕ → Bool → ℕ → ℕ → Bool
@@ -124,5 +119,5 @@ listed T f h =
       few = f .items-few;
       whole = f .items;
       ascending =
-          λ i k. and-right (itemFits T (itemAt T (suc i))) _ (none-bad (ok14 T) 0 (itemCount T) h (suc i) (omega arith) (omega arith));
+          λ i k. and-right (itemFits T (itemAt T (suc i))) _ (good-at (ok14 T) 0 (itemCount T) h (suc i) (omega arith) (omega arith));
     }

@@ -8,7 +8,6 @@ use native.Mathlib.Decide.{decLt}
 use native.Mathlib.Numerals.{add-one}
 use native.Mathlib.Omega.{arith}
 use Rattle.rules.specs.Basics.{allBelow, anyBelow}
-use Rattle.tables.specs.declared.Place.the-variants.{At, Nowhere}
 use Rattle.tables.specs.Places.{firstBad}
 
 or-true : (x : Bool) → x || true ≡ true
@@ -68,16 +67,3 @@ bad-skips ok skip h i (suc n) s =
 -- before the first turn all is left
 pub bad-all : (ok : ℕ → Bool) (n : ℕ) → firstBad ok 0 (n - 0) ≡ firstBad ok 0 n
 bad-all ok n = let e : n - 0 ≡ n = omega arith in rw e
-
--- where no place is bad, the test holds at each
-pub none-bad : (ok : ℕ → Bool) (i n : ℕ) → firstBad ok i n ≡ Nowhere → (k : ℕ) → i ≤ k → k < i + n → ok k ≡ true
-unfolding firstBad
-none-bad ok i zero h k l u = absurd (omega arith)
-none-bad ok i (suc n) h k l u =
-    case-of (ok i)
-    (λ e.
-    elim (decLt i k) [
-      | yes m ↦ none-bad ok (suc i) n (rw e at h) k (omega arith) (omega arith)
-      | no m ↦ let q : k ≡ i = omega arith in rw q e
-    ])
-    (λ e. let b : At i ≡ Nowhere = rw e at h in absurd (let z : _≡_ {A = ℕ} 0 1 = cc in omega arith))

@@ -3,7 +3,7 @@ ghost use mathlib.Core.Path.{_≡_};
 ghost use Prim.Native.Nat.{_+_, _*_, _<_, _≤_, _^_};
 ghost use Rattle.rules.specs.Tables.{itemCount};
 ghost use Rattle.rules.specs.Check.{actionCells, ok16};
-ghost use Rattle.tables.specs.Places.{callTables, firstBad};
+ghost use Rattle.tables.specs.Places.{callTables, firstBad, found};
 ghost use Rattle.tables.specs.Fit.{Fit};
 ghost use Rattle.items.specs.Lookup.{Listed};
 ghost use Rattle.items.specs.Reducing.{reduceFitsIn, fits16};
@@ -93,7 +93,7 @@ pub fn scan16(
 ) -> Place
     requires { ⌜ Fit (callTables (now sizes) (now actions) (now gotos) (now productions) (now rights) (now items) (now sets)) ⌝ }
     requires { ⌜ Listed (now items) (itemCount (callTables (now sizes) (now actions) (now gotos) (now productions) (now rights) (now items) (now sets))) ⌝ }
-    ensures { λ r. ⌜ r ≡ firstBad (ok16 (callTables (now (sizes .entry)) (now (actions .entry)) (now (gotos .entry)) (now (productions .entry)) (now (rights .entry)) (now (items .entry)) (now (sets .entry)))) 0 (actionCells (callTables (now (sizes .entry)) (now (actions .entry)) (now (gotos .entry)) (now (productions .entry)) (now (rights .entry)) (now (items .entry)) (now (sets .entry)))) ⌝ }
+    ensures { λ r. ⌜ r ≡ found ok16 actionCells (callTables (now (sizes .entry)) (now (actions .entry)) (now (gotos .entry)) (now (productions .entry)) (now (rights .entry)) (now (items .entry)) (now (sets .entry))) ⌝ }
 {
     let states = word16(sizes, 0) as usize;
     let kinds = word16(sizes, 2) as usize;

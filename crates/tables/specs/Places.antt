@@ -49,6 +49,21 @@ pub judge-at : (number : ℕ) (ok : ℕ → Bool) (n : ℕ) (rest : Verdict) →
 unfolding judge
 judge-at number ok n rest = first-false number ok 0 n rest
 
+-- where there is no such place, the test holds at each
+pick-nowhere : (b : Bool) (p : Place) (i : ℕ) → pick b p (At i) ≡ Nowhere → (b ≡ true) × (p ≡ Nowhere)
+pick-nowhere true p i e = (refl, e)
+pick-nowhere false p i e = let z : _≡_ {A = ℕ} 0 1 = cc in absurd (omega arith)
+
+pub good-at : (ok : ℕ → Bool) (i n : ℕ) → firstBad ok i n ≡ Nowhere → (k : ℕ) → i ≤ k → k < i + n → ok k ≡ true
+unfolding firstBad
+good-at ok i zero e k h l = absurd (omega arith)
+good-at ok i (suc n) e k h l =
+    let r = pick-nowhere (ok i) (firstBad ok (suc i) n) i e in
+    elim (decLt i k) [
+      | yes m ↦ good-at ok (suc i) n (r .1) k (omega arith) (omega arith)
+      | no m ↦ let q : k ≡ i = omega arith in rw q (r .0)
+    ]
+
 -- two tests that agree at every place are first false at the same one
 pub bad-same : (f g : ℕ → Bool) → ((i : ℕ) → f i ≡ g i) → (i n : ℕ) → firstBad f i n ≡ firstBad g i n
 unfolding firstBad

@@ -1,22 +1,18 @@
+-- `chamrolak::in_numbers` is the verdict in numbers, by its two cases.
+-- Assumes nothing.
 use borrow.Author.Needs.{needs}
 use Rattle.chamrolak.proofs.in_numbers.Statement.{statement}
 use Rattle.chamrolak.proofs.in_numbers.Tie as tie
-use Rattle.chamrolak.proofs.in_numbers.Reads as reads
-use Rattle.chamrolak.proofs.in_numbers.Lts as lts
 
--- src/lib.rt:21:28
 enum-told : tie.Need-enum-told
 enum-told c = search needs
 
--- src/lib.rt:25:26
 enum-known-verdict : tie.Need-enum-known-verdict
 enum-known-verdict c = search needs
 
--- src/lib.rt:17:1
 returns : tie.Need-returns
 returns c = rw (c .enum-told .given .1)
 
--- src/lib.rt:17:1
 returns-2 : tie.Need-returns-2
 returns-2 c = rw (c .before .verdict .given .1)
 

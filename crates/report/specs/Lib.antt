@@ -1,0 +1,2 @@
+-- The words of a report, from an answer and four counts.
+pub mod Report
