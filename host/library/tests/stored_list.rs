@@ -1,0 +1,49 @@
+//! The library against the stored list of the Rust driver's answers: needs no Rust source.
+
+use chamrolak::lent::RoomBytes;
+use chamrolak::trial::{Call, Entry};
+use chamrolak::{check, CallResult, Input, TableSlices};
+use chamrolak_rules::tables::{token_bytes, Payloads, Tables};
+use chamrolak_rules::vectors::StoredList;
+
+fn stored_list() -> StoredList {
+    StoredList::from_text(include_str!("../../vectors/oracle.txt"))
+}
+
+#[test]
+fn the_library_passes_every_stored_table() {
+    let passes = CallResult {
+        number: 0,
+        value: 0,
+    };
+    for (number, tables) in stored_list().tables.iter().enumerate() {
+        let payloads = tables.encode();
+        assert_eq!(check(&TableSlices::from(&payloads)), passes, "{number}");
+    }
+}
+
+#[test]
+fn the_library_gives_every_stored_answer() {
+    let list = stored_list();
+    let payloads: Vec<Payloads> = list.tables.iter().map(Tables::encode).collect();
+    for case in &list.cases {
+        let run = &case.run;
+        let tokens = token_bytes(&case.tokens);
+        // As deep as any run of so many units can be; then just what it filled, and some odd bytes.
+        let exactly = RoomBytes::filled_by(run, run.units as usize + 1);
+        for rooms in [exactly, exactly.and(3), exactly.and(101)] {
+            let call = Call {
+                payloads: &payloads[case.table],
+                input: Input {
+                    tokens: &tokens,
+                    start_location: case.start_location,
+                    budget: case.budget as u32,
+                },
+                rooms,
+            };
+            call.must_do(Entry::Drive, Ok(run));
+            call.must_do(Entry::Parse, Ok(run));
+        }
+    }
+    println!("stored list: {} cases, 6 calls each", list.cases.len());
+}
