@@ -86,8 +86,14 @@ impl Room {
         self.bytes.len() - 2 * GUARD_BYTES
     }
 
-    pub fn read(&self) -> &[u8] {
+    fn read(&self) -> &[u8] {
         &self.bytes[GUARD_BYTES..][..self.length()]
+    }
+
+    /// The whole words of the room.
+    pub fn words(&self) -> Vec<u32> {
+        let word = |bytes: &[u8]| u32::from_le_bytes(bytes.try_into().expect("four bytes"));
+        self.read().chunks_exact(4).map(word).collect()
     }
 
     /// The first byte, counted from the room's, that is not as it was; those of the room itself are

@@ -2,7 +2,7 @@
 //! room, and the bytes past the counts, which must be as they were.
 
 use crate::lent::{LentRooms, Room, RoomBytes};
-use crate::{drive, parse, CallResult, Input, TableSlices};
+use crate::{check, drive, parse, CallResult, Input, TableSlices};
 use chamrolak_rules::answer::{Answer, Expected, Refusal, Run};
 use chamrolak_rules::drive::Driven;
 use chamrolak_rules::tables::Payloads;
@@ -61,7 +61,8 @@ impl Call<'_> {
         }
     }
 
-    fn report(&self, entry: Entry, difference: &str) -> ! {
+    /// Panics with the arguments of this call.
+    pub fn report(&self, entry: Entry, difference: &str) -> ! {
         let Payloads {
             sizes,
             actions,
@@ -82,14 +83,45 @@ impl Call<'_> {
     }
 }
 
+/// Holds `chamrolak_check` to the rules, and where these tables are refused `chamrolak_parse` as
+/// well, which must then leave every room as it was. Gives the verdict; number 0 is a pass.
+pub fn judge_tables(payloads: &Payloads) -> CallResult {
+    let refusal = chamrolak_rules::check::check(payloads).err();
+    let by_the_rules = refusal.map_or(PASSES, result_of_refusal);
+    let by_the_library = check(&TableSlices::from(payloads));
+    assert_eq!(by_the_library, by_the_rules, "tables {payloads:?}");
+    if let Some(refusal) = refusal {
+        let call = Call {
+            payloads,
+            input: Input {
+                tokens: &[],
+                start_location: 0,
+                budget: 100,
+            },
+            rooms: RoomBytes::enough_for(2).and(5),
+        };
+        call.must_do(Entry::Parse, Err(refusal));
+    }
+    by_the_rules
+}
+
+const PASSES: CallResult = CallResult {
+    number: 0,
+    value: 0,
+};
+
+fn result_of_refusal(Refusal { number, place }: Refusal) -> CallResult {
+    CallResult {
+        number,
+        value: place as u32,
+    }
+}
+
 impl Effect {
     /// "Refusals 10 to 18 touch no buffer": the report is none either, and here the stack and scratch
     /// rooms count as well.
     pub fn difference_from_refusal(&self, refusal: Refusal) -> Option<String> {
-        let result = CallResult {
-            number: refusal.number,
-            value: refusal.place as u32,
-        };
+        let result = result_of_refusal(refusal);
         if self.result != result {
             return Some(format!("{:?} and not {result:?}", self.result));
         }
@@ -131,9 +163,7 @@ impl Effect {
 }
 
 fn difference_of_words(name: &str, room: &Room, words: &[u32]) -> Option<String> {
-    let found = room.read().chunks_exact(4);
-    let found = found.map(|bytes| u32::from_le_bytes(bytes.try_into().expect("four bytes")));
-    (words.iter().zip(found).enumerate())
+    (words.iter().zip(room.words()).enumerate())
         .find(|(_, (word, found))| *word != found)
         .map(|(place, (word, found))| format!("word {place} of {name} is {found} and not {word}"))
 }

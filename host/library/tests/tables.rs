@@ -1,15 +1,11 @@
 //! The library's check against the evaluator's on damaged tables.
 
-use chamrolak::lent::RoomBytes;
-use chamrolak::trial::{Call, Entry};
-use chamrolak::{check, CallResult, Input, TableSlices};
-use chamrolak_rules::answer::Refusal;
+use chamrolak::trial::judge_tables;
 use chamrolak_rules::automaton::{self, Merging};
-use chamrolak_rules::bench::numbered_tokens;
 use chamrolak_rules::generate::{damaged_tables, random_specimen, RECIPE_GRAMMAR};
 use chamrolak_rules::grammar::Grammar;
 use chamrolak_rules::random::Random;
-use chamrolak_rules::tables::{token_bytes, Payloads, Tables};
+use chamrolak_rules::tables::{Payloads, Tables};
 use std::collections::BTreeMap;
 
 const DAMAGED_TABLES: usize = 60_000;
@@ -19,42 +15,8 @@ const DAMAGES_OF_A_TABLE: usize = 10;
 const MOST_ITEMS: usize = 300;
 const LARGE_DAMAGED_TABLES: usize = 60;
 
-/// The evaluator's verdict as the call gives it.
-fn verdict(payloads: &Payloads) -> CallResult {
-    match chamrolak_rules::check::check(payloads) {
-        Ok(_) => CallResult {
-            number: 0,
-            value: 0,
-        },
-        Err(Refusal { number, place }) => CallResult {
-            number,
-            value: place as u32,
-        },
-    }
-}
-
-/// Holds `chamrolak_check` to the evaluator, and where tables are refused `chamrolak_parse` as well,
-/// which must leave every room as it was.
 fn judge(payloads: &Payloads, counts: &mut BTreeMap<u32, usize>) {
-    let by_the_rules = verdict(payloads);
-    let CallResult { number, value } = by_the_rules;
-    let by_the_library = check(&TableSlices::from(payloads));
-    assert_eq!(by_the_library, by_the_rules, "tables {payloads:?}");
-    *counts.entry(number).or_default() += 1;
-    if number != 0 {
-        let tokens = token_bytes(&numbered_tokens(&[0, 1]));
-        let call = Call {
-            payloads,
-            input: Input {
-                tokens: &tokens,
-                start_location: 0,
-                budget: 100,
-            },
-            rooms: RoomBytes::enough_for(4).and(5),
-        };
-        let place = value as usize;
-        call.must_do(Entry::Parse, Err(Refusal { number, place }));
-    }
+    *counts.entry(judge_tables(payloads).number).or_default() += 1;
 }
 
 fn print_and_require(what: &str, counts: &BTreeMap<u32, usize>, least: usize) {

@@ -3,7 +3,8 @@
 //! `tables`, `check`, `answer`, `drive` and `file` render the sections of document 01 in the paper's
 //! order. They were written from its text, and not from the Rust driver that it ports. `bench` holds
 //! the paper's own examples. `grammar`, `automaton`, `generate` and `random` make tables and inputs
-//! for tests, and `vectors` reads and writes the stored list of answers.
+//! for tests, `vectors` reads and writes the stored list of answers, and `tally` is what the programs
+//! that compare have in common.
 #![forbid(unsafe_code)]
 
 pub mod answer;
@@ -16,6 +17,7 @@ pub mod generate;
 pub mod grammar;
 pub mod random;
 pub mod tables;
+pub mod tally;
 pub mod vectors;
 
 use answer::{Limits, Refusal};
