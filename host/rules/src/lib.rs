@@ -12,6 +12,7 @@ pub mod automaton;
 pub mod bench;
 pub mod check;
 pub mod drive;
+pub mod example;
 pub mod file;
 pub mod generate;
 pub mod grammar;
