@@ -1,5 +1,9 @@
 /* A host of the library, whole: reads a view recipe, says what each material shows as, and
- * underlines what it could not read.
+ * underlines what it could not read. To build and run it, at the root of this repository:
+ *
+ *   rt staticlib chamrolak
+ *   cc -Iinclude examples/underline.c target/staticlib/libchamrolak.a -o underline
+ *   ./underline examples/recipes/errors.recipe
  *
  *   underline [--units N] [--depth N] [--nodes N] [--children N] [--records N] [FILE]
  *
@@ -19,8 +23,7 @@
 
 enum { GOOD = 0, HAS_ERRORS = 1, NOT_READ = 2, BAD_TABLES = 3 };
 
-/* ---- What is lent -------------------------------------------------------------------------------
- */
+/* ---- What is lent ---- */
 
 enum {
   MOST_TEXT = 65536,
@@ -51,8 +54,7 @@ static struct {
 /* The limits stand in the order of their answers: 19, 20, 21, 22, 23. */
 static uint32_t limit_of(uint32_t answer) { return limits[answer - CHAMROLAK_OUT_OF_UNITS].number; }
 
-/* ---- The recipe's text and its tokens
- * ------------------------------------------------------------- */
+/* ---- The recipe's text and its tokens ---- */
 
 static char text[MOST_TEXT + 1]; /* the last byte shows that a text is too long */
 static size_t text_length;
@@ -162,8 +164,7 @@ static void tokenize(void) {
     add_token(RECIPE_KIND_NEWLINE, words_end, words_end);
 }
 
-/* ---- Messages
- * ------------------------------------------------------------------------------------- */
+/* ---- Messages ---- */
 
 static void print_kind(uint32_t kind) {
   if (kind == RECIPE_KIND_NEWLINE)
@@ -293,8 +294,7 @@ static void print_record(uint32_t record) {
   print_expected(entry);
 }
 
-/* ---- What the materials show as
- * ---------------------------------------------------------------------- */
+/* ---- What the materials show as ---- */
 
 static uint32_t child(uint32_t node, uint32_t number) {
   return chamrolak_child(nodes, children, node, number);
@@ -402,8 +402,7 @@ static void show_lines(uint32_t lines, uint32_t indent) {
   show_line(child(lines, 1), indent);
 }
 
-/* ---- Answers and refusals
- * ------------------------------------------------------------------------------ */
+/* ---- Answers and refusals ---- */
 
 /* What test of the check was failed, for the one who makes the tables. */
 static const char *test_of(uint32_t refusal) {
@@ -518,8 +517,7 @@ static int parse(void) {
   return answer(result);
 }
 
-/* ---- The program
- * --------------------------------------------------------------------------------------- */
+/* ---- The program ---- */
 
 static int read_text(const char *path) {
   FILE *file = stdin;

@@ -9,15 +9,15 @@
  *   1. It checks its tables once, at start-up: chamrolak_check_tables.
  *   2. For each text it makes a token list and drives it: chamrolak_drive_with. A host that parses
  *      once, or is not sure of its tables, calls chamrolak_parse_with, which checks and drives.
- *   3. It reads the answer from the result and the report, the tree from the nodes and child
- * entries, and what to underline from the records.
+ *   3. It reads the answer from the result and the report, the tree from the nodes and their
+ *      children, and what to underline from the records.
  *
  *   static uint8_t stack[256 * CHAMROLAK_STACK_BYTES], scratch[256 * CHAMROLAK_SCRATCH_BYTES];
  *   static uint8_t nodes[4096 * CHAMROLAK_NODE_BYTES], children[4096 * CHAMROLAK_CHILD_BYTES];
  *   static uint8_t records[64 * CHAMROLAK_RECORD_BYTES], report[CHAMROLAK_REPORT_BYTES];
- *   const chamrolak_rooms rooms = {stack,    sizeof stack,    scratch, sizeof scratch, nodes,
- *                                  sizeof nodes, children, sizeof children, records,
- *                                  sizeof records, report};
+ *   const chamrolak_rooms rooms = {stack,    sizeof stack,    scratch, sizeof scratch,
+ *                                  nodes,    sizeof nodes,    children, sizeof children,
+ *                                  records,  sizeof records,  report};
  *   uint8_t tokens[2 * CHAMROLAK_TOKEN_BYTES];
  *   chamrolak_put_token(tokens, 0, KIND_LINEN, 0, 5);
  *   chamrolak_put_token(tokens, 1, KIND_NEWLINE, 5, 6);
@@ -42,7 +42,7 @@
 extern "C" {
 #endif
 
-/* ---- What a call returns --------------------------------------------------------------------- */
+/* ---- What a call returns ---- */
 
 /* The numbers of 01: answers 1 to 6 and 19 to 23, refusals 10 to 18. */
 enum {
@@ -87,31 +87,30 @@ typedef struct {
   uint32_t value;  /* what that number's line says; 0 where it says nothing */
 } chamrolak_result;
 
-/* ---- What the host lends ----------------------------------------------------------------------
+/* ---- What the host lends ----
  *
  * Rooms are bytes, of any alignment; a room counts in whole entries, and bytes left over stay
  * unused. No two rooms may overlap, nor a room and a list that is read.
  *
  * How many entries are enough? One look at an action cell is one unit, and a look makes at most one
- * node. So for a budget of n units, n nodes, n child entries, n records and a depth of n + 1 always
- * are; a list of errors is as long as the errors that a person should see at once. A room that is
- * too small is answered with its number, 20 to 23, and can be lent again, larger.
+ * node and one state. So for a budget of n units, n nodes, n child entries, n records and a depth
+ * of n + 1 always are. Less will do in practice: a room that is too small is answered with its
+ * number, 20 to 23, and can be lent again, larger; and of records no more are needed than the
+ * errors that a person should see at once.
  */
 enum {
-  CHAMROLAK_TOKEN_BYTES = 12,   /* three words: kind, start, end */
-  CHAMROLAK_STACK_BYTES = 32,   /* for each state of depth */
-  CHAMROLAK_SCRATCH_BYTES = 4,  /* for each state of depth */
-  CHAMROLAK_NODE_BYTES = 32,    /* 8 words */
-  CHAMROLAK_CHILD_BYTES = 4,    /* 1 word: the child's node number */
-  CHAMROLAK_RECORD_BYTES = 64,  /* 16 words */
-  CHAMROLAK_REPORT_BYTES = 64,  /* 16 words */
-  CHAMROLAK_MOST_TOKENS = 4096, /* one more is refusal 18 */
-  CHAMROLAK_TOKENIZER_ERROR_KIND =
-      65535 /* "the tokenizer's own error": the run ends with answer 6 */
+  CHAMROLAK_TOKEN_BYTES = 12,            /* three words: kind, start, end */
+  CHAMROLAK_STACK_BYTES = 32,            /* for each state of depth */
+  CHAMROLAK_SCRATCH_BYTES = 4,           /* for each state of depth */
+  CHAMROLAK_NODE_BYTES = 32,             /* 8 words */
+  CHAMROLAK_CHILD_BYTES = 4,             /* 1 word: the child's node number */
+  CHAMROLAK_RECORD_BYTES = 64,           /* 16 words */
+  CHAMROLAK_REPORT_BYTES = 64,           /* 16 words */
+  CHAMROLAK_MOST_TOKENS = 4096,          /* one more is refusal 18 */
+  CHAMROLAK_TOKENIZER_ERROR_KIND = 65535 /* a token of this kind ends the run with answer 6 */
 };
 
-/* ---- What comes back: the words of nodes, records and the report --------------------------------
- */
+/* ---- What comes back: the words of nodes, records and the report ---- */
 
 /* A node, 8 words. Children stand before their parents; popped nodes stay and count. */
 enum {
@@ -154,8 +153,7 @@ enum {
   CHAMROLAK_REPORT_EXPECTED = 8 /* 8 words, as in a record; answers 3 and 4 */
 };
 
-/* ---- The calls
- * -----------------------------------------------------------------------------------
+/* ---- The calls ----
  *
  * A list or room is a pointer and a length in bytes. A pointer may not be NULL, not even where its
  * length is 0. The seven table lists are the payloads of record kinds 1 to 7 of 01's file, all of
@@ -168,8 +166,8 @@ enum {
  *   productions  left side and length, each
  *   rights       the right sides' symbols, one after the other: 0..t terminals, t+1+j nonterminal j
  *   items        state, production, dot, lookahead column, each; ascending
- *   sets         for each nonterminal 33 bytes: a nullable flag, then 256 bits of kinds that begin
- * it
+ *   sets         33 bytes for each nonterminal: a nullable flag, then a bit for each kind that can
+ *                begin it, kind k at bit k mod 8 of byte k/8
  *
  * The struct forms further down take the same things in two structs.
  */
@@ -214,8 +212,7 @@ chamrolak_result chamrolak_drive(const uint8_t *sizes, size_t sizes_length, cons
                                  size_t children_length, uint8_t *records, size_t records_length,
                                  uint8_t *report);
 
-/* ---- The same calls by structs
- * -------------------------------------------------------------------- */
+/* ---- The same calls by structs ---- */
 
 typedef struct {
   const uint8_t *sizes;
@@ -284,8 +281,7 @@ static inline chamrolak_result chamrolak_drive_with(const chamrolak_tables *tabl
       rooms->children_length, rooms->records, rooms->records_length, rooms->report);
 }
 
-/* ---- Reading and writing words ----------------------------------------------------------------
- */
+/* ---- Reading and writing words ---- */
 
 /* The little-endian word number `word` of these bytes. */
 static inline uint32_t chamrolak_word(const uint8_t *bytes, size_t word) {

@@ -6,8 +6,9 @@ use crate::{
 };
 use chamrolak_rules::answer::{Limits, Run};
 
-/// Bytes before and behind each room that no call may change.
-const GUARD_BYTES: usize = 64;
+/// Bytes before and behind each room that no call may change. An odd number, so that a room begins at
+/// an odd address.
+const GUARD_BYTES: usize = 61;
 
 /// How many bytes each room is lent with.
 #[derive(Clone, Copy, Debug, PartialEq, Eq)]
