@@ -4,8 +4,10 @@
 use crate::lent::{LentRooms, Room, RoomBytes};
 use crate::{check, drive, parse, CallResult, Input, TableSlices};
 use chamrolak_rules::answer::{Answer, Expected, Refusal, Run};
+use chamrolak_rules::bench::numbered_tokens;
 use chamrolak_rules::drive::Driven;
-use chamrolak_rules::tables::Payloads;
+use chamrolak_rules::tables::{token_bytes, Payloads};
+use chamrolak_rules::unchecked::drive_unchecked;
 
 /// Which of the two calls that run.
 #[derive(Clone, Copy, Debug, PartialEq, Eq)]
@@ -23,13 +25,13 @@ pub struct Call<'a> {
 }
 
 /// What a call left.
-pub struct Effect {
-    pub result: CallResult,
-    pub rooms: LentRooms,
+struct Effect {
+    result: CallResult,
+    rooms: LentRooms,
 }
 
 impl Call<'_> {
-    pub fn make(&self, entry: Entry) -> Effect {
+    fn make(&self, entry: Entry) -> Effect {
         let mut rooms = LentRooms::new(&self.rooms);
         let tables = TableSlices::from(self.payloads);
         let result = match entry {
@@ -39,20 +41,37 @@ impl Call<'_> {
         Effect { result, rooms }
     }
 
-    /// The evaluator's answer to the same call, check included.
-    pub fn by_the_rules(&self) -> Result<Driven, Refusal> {
+    /// The evaluator's answer to the same call.
+    fn by_the_rules(&self, entry: Entry) -> Result<Driven, Refusal> {
         let Input {
             tokens,
             start_location,
             budget,
         } = self.input;
         let limits = self.rooms.limits(budget);
-        chamrolak_rules::call(self.payloads, tokens, start_location, &limits)
+        match entry {
+            Entry::Parse => chamrolak_rules::call(self.payloads, tokens, start_location, &limits),
+            Entry::Drive => drive_unchecked(self.payloads, tokens, start_location, &limits),
+        }
     }
 
-    /// Panics where the library does not do what these rules say, with the arguments that show it.
-    pub fn must_do(&self, entry: Entry, by_the_rules: Result<&Run, Refusal>) {
-        let difference = match by_the_rules {
+    /// Makes the call and holds it to the evaluator. Gives the number of the refusal or answer.
+    pub fn must_do_as_the_rules_say(&self, entry: Entry) -> u32 {
+        match self.by_the_rules(entry) {
+            Ok(driven) => {
+                self.must_do(entry, Ok(&driven.run));
+                driven.run.answer.number()
+            }
+            Err(refusal) => {
+                self.must_do(entry, Err(refusal));
+                refusal.number
+            }
+        }
+    }
+
+    /// Panics where the library does not do this, with the arguments that show it.
+    pub fn must_do(&self, entry: Entry, expected: Result<&Run, Refusal>) {
+        let difference = match expected {
             Ok(run) => self.make(entry).difference_from(run),
             Err(refusal) => self.make(entry).difference_from_refusal(refusal),
         };
@@ -61,8 +80,7 @@ impl Call<'_> {
         }
     }
 
-    /// Panics with the arguments of this call.
-    pub fn report(&self, entry: Entry, difference: &str) -> ! {
+    fn report(&self, entry: Entry, difference: &str) -> ! {
         let Payloads {
             sizes,
             actions,
@@ -83,9 +101,10 @@ impl Call<'_> {
     }
 }
 
-/// Holds `chamrolak_check` to the rules, and where these tables are refused `chamrolak_parse` as
-/// well, which must then leave every room as it was. Gives the verdict; number 0 is a pass.
-pub fn judge_tables(payloads: &Payloads) -> CallResult {
+/// Holds `chamrolak_check` to the rules, and where these tables are refused the calls that run as
+/// well: `chamrolak_parse`, which must leave every room as it was, and `chamrolak_drive`, which takes
+/// any tables. Gives the verdict's number; 0 is a pass.
+pub fn judge_tables(payloads: &Payloads) -> u32 {
     let refusal = chamrolak_rules::check::check(payloads).err();
     let by_the_rules = refusal.map_or(PASSES, result_of_refusal);
     let by_the_library = check(&TableSlices::from(payloads));
@@ -94,15 +113,16 @@ pub fn judge_tables(payloads: &Payloads) -> CallResult {
         let call = Call {
             payloads,
             input: Input {
-                tokens: &[],
+                tokens: &token_bytes(&numbered_tokens(&[0, 1, 0])),
                 start_location: 0,
                 budget: 100,
             },
-            rooms: RoomBytes::enough_for(2).and(5),
+            rooms: RoomBytes::enough_for(20).and(5),
         };
         call.must_do(Entry::Parse, Err(refusal));
+        call.must_do_as_the_rules_say(Entry::Drive);
     }
-    by_the_rules
+    by_the_rules.number
 }
 
 const PASSES: CallResult = CallResult {
@@ -120,7 +140,7 @@ fn result_of_refusal(Refusal { number, place }: Refusal) -> CallResult {
 impl Effect {
     /// "Refusals 10 to 18 touch no buffer": the report is none either, and here the stack and scratch
     /// rooms count as well.
-    pub fn difference_from_refusal(&self, refusal: Refusal) -> Option<String> {
+    fn difference_from_refusal(&self, refusal: Refusal) -> Option<String> {
         let result = result_of_refusal(refusal);
         if self.result != result {
             return Some(format!("{:?} and not {result:?}", self.result));
@@ -129,7 +149,7 @@ impl Effect {
     }
 
     /// The words of the run, and nothing past them. Stack and scratch rooms are the driver's own.
-    pub fn difference_from(&self, run: &Run) -> Option<String> {
+    fn difference_from(&self, run: &Run) -> Option<String> {
         let result = result_of(&run.answer);
         if self.result != result {
             return Some(format!("{:?} and not {result:?}", self.result));
@@ -152,7 +172,7 @@ impl Effect {
     }
 
     /// A byte that changed behind so many written ones of each room, or around the room.
-    pub fn first_change_past(&self, written: [usize; 6]) -> Option<String> {
+    fn first_change_past(&self, written: [usize; 6]) -> Option<String> {
         (self.rooms.named().into_iter())
             .zip(written)
             .find_map(|((name, room), from)| {

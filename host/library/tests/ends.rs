@@ -13,20 +13,15 @@ use chamrolak_rules::tables::{token_bytes, Payloads, Production, Tables, Token};
 
 const BUDGET: u32 = 100_000;
 
-/// Makes both calls on tables that pass the check and holds them to the rules.
+/// Makes both calls and holds them to the rules.
 fn try_both(payloads: &Payloads, input: Input, rooms: RoomBytes) {
     let call = Call {
         payloads,
         input,
         rooms,
     };
-    let by_the_rules = call.by_the_rules();
-    for entry in [Entry::Parse, Entry::Drive] {
-        match &by_the_rules {
-            Ok(driven) => call.must_do(entry, Ok(&driven.run)),
-            Err(refusal) => call.must_do(entry, Err(*refusal)),
-        }
-    }
+    call.must_do_as_the_rules_say(Entry::Parse);
+    call.must_do_as_the_rules_say(Entry::Drive);
 }
 
 /// The same with rooms that the run fills up to some odd bytes.

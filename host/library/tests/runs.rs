@@ -43,7 +43,6 @@ impl<'a> Trial<'a> {
 
     /// Makes the call with this budget and these rooms, and holds it to the rules.
     fn try_with(&self, entry: Entry, budget: u32, rooms: RoomBytes, counts: &mut Counts) {
-        let driven = self.by_the_rules(&rooms.limits(budget));
         let input = Input {
             tokens: &self.token_bytes,
             start_location: self.start_location,
@@ -54,8 +53,7 @@ impl<'a> Trial<'a> {
             input,
             rooms,
         };
-        call.must_do(entry, Ok(&driven.run));
-        counts.add(driven.run.answer.number());
+        counts.add(call.must_do_as_the_rules_say(entry));
     }
 }
 

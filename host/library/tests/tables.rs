@@ -16,7 +16,7 @@ const MOST_ITEMS: usize = 300;
 const LARGE_DAMAGED_TABLES: usize = 60;
 
 fn judge(payloads: &Payloads, counts: &mut BTreeMap<u32, usize>) {
-    *counts.entry(judge_tables(payloads).number).or_default() += 1;
+    *counts.entry(judge_tables(payloads)).or_default() += 1;
 }
 
 fn print_and_require(what: &str, counts: &BTreeMap<u32, usize>, least: usize) {
