@@ -4,13 +4,9 @@
 # hostile inputs. Stops at the first failure; the last line counts the tests that ran.
 # `./test.sh --write` writes expected/ anew.
 set -euo pipefail
+source "$(dirname "$0")/../archive.sh"
 cd "$(dirname "$0")"
-
-archive=${CHAMROLAK_ARCHIVE:-../target/staticlib/libchamrolak.a}
-if [ ! -f "$archive" ]; then
-    echo "There is no library at $archive: make it with 'rt staticlib chamrolak', or name one in CHAMROLAK_ARCHIVE." >&2
-    exit 1
-fi
+export LC_ALL=C
 
 passed=0
 work=$(mktemp -d)
@@ -27,7 +23,7 @@ fail() {
 build() {
     local program=$1 source=$2
     shift 2
-    "$@" "${warnings[@]}" -I../include "$source" -x none "$archive" -o "$program" || fail "$* does not build $source"
+    "$@" "${warnings[@]}" -I../include "$source" -x none "$CHAMROLAK_ARCHIVE" -o "$program" || fail "$* does not build $source"
     passed=$((passed + 1))
 }
 
@@ -81,7 +77,7 @@ hostile_inputs() {
     awk 'BEGIN { for (n = 0; n < 1366; n++) print "bone above 7" }' > "$work/too_many_words"
     head -c 65537 /dev/zero | tr '\0' ' ' > "$work/too_long"
     mkdir "$work/hostile"
-    head -c 65536 "$archive" > "$work/hostile/binary"
+    head -c 65536 "$CHAMROLAK_ARCHIVE" > "$work/hostile/binary"
     head -c 65536 /dev/zero > "$work/hostile/zeros"
     head -c 65536 /dev/zero | tr '\0' '\n' > "$work/hostile/newlines"
     head -c 65536 /dev/zero | tr '\0' '\377' > "$work/hostile/high_bytes"
@@ -122,6 +118,19 @@ for compiler in g++ clang++; do
     command -v "$compiler" > /dev/null || { echo "$compiler is not here, and is left out."; continue; }
     build "$work/underline_$compiler" underline.c "$compiler" -x c++ -std=c++11
 done
+
+# As someone who has it installed builds it.
+../install.sh "$work/installed"
+if command -v pkg-config > /dev/null; then
+    export PKG_CONFIG_PATH=$work/installed/lib/pkgconfig
+    read -r -a cflags <<< "$(pkg-config --cflags chamrolak)"
+    read -r -a libs <<< "$(pkg-config --libs chamrolak)"
+    gcc -std=c99 "${warnings[@]}" "${cflags[@]}" underline.c "${libs[@]}" -o "$work/underline_installed" \
+        || fail "the host does not build against the installed library"
+    passed=$((passed + 1))
+else
+    echo "pkg-config is not here: the installed library is not tried."
+fi
 
 sanitizers=(-g -O1 -fsanitize=address -fsanitize=undefined -fno-sanitize-recover=all)
 build "$work/sanitized" underline.c gcc -std=c99 "${sanitizers[@]}"

@@ -121,11 +121,11 @@ static size_t read_token(size_t start, uint32_t *kind) {
       end++;
     *kind = RECIPE_KIND_NUMBER;
     if (end - start > 9)
-      complain("a number has at most nine digits", kind);
+      complain("a number has at most nine digits: shorten it", kind);
   } else {
     *kind = kind_of_word(start, end);
     if (*kind == RECIPE_KIND_WORD)
-      complain("no word of a recipe begins with this character", kind);
+      complain("no word of a recipe begins with this character: remove it", kind);
   }
   return end;
 }

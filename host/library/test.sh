@@ -3,14 +3,9 @@
 # customer's source is here the Rust driver side by side. Stops at the first failure. The last line
 # counts the tests that ran; a program counts as one.
 set -euo pipefail
+source "$(dirname "$0")/../../archive.sh"
+source "$(dirname "$0")/../counting.sh"
 cd "$(dirname "$0")"
-source ../counting.sh
-
-export CHAMROLAK_ARCHIVE=${CHAMROLAK_ARCHIVE:-$PWD/../../target/staticlib/libchamrolak.a}
-if [ ! -f "$CHAMROLAK_ARCHIVE" ]; then
-    echo "There is no library at $CHAMROLAK_ARCHIVE: make it with 'rt staticlib chamrolak', or name one in CHAMROLAK_ARCHIVE." >&2
-    exit 1
-fi
 
 cargo fmt --check
 count_tests cargo test --offline --locked --release -- --show-output
