@@ -203,6 +203,7 @@ fn long_runs_cut_at_sampled_limits() {
         let tokens = long_tokens(&mut random, &grammar, size);
         let trial = Trial::new(&tables, &payloads, tokens, 0);
         let whole = trial.by_the_rules(&Limits::budget_only(100_000));
+        assert!(whole.run.units > size as u64, "the run goes on to the end");
         let filled = RoomBytes::filled_by(&whole.run, whole.deepest);
         trial.try_with(Entry::Drive, 100_000, filled, &mut counts);
         trial.try_with(Entry::Parse, 100_000, filled, &mut counts);

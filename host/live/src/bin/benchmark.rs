@@ -32,19 +32,18 @@ fn main() {
             ("every tenth token wrong", (subject.with_errors)(TOKENS)),
         ] {
             let times = subject.time(&kinds);
-            let to = |rust: Duration| times.library.as_secs_f64() / rust.as_secs_f64();
+            let (states, units, marks) = (subject.tables.states, times.units, times.marks);
             println!(
-                "{}, {name} ({} units, {} marks): library {:?}, Rust with the same tree {:?}, \
-                 Rust with no tree {:?}; ratio {:.2} to the first, {:.2} to the second",
-                subject.name,
-                times.units,
-                times.marks,
-                times.library,
-                times.same_tree,
-                times.no_tree,
-                to(times.same_tree),
-                to(times.no_tree),
+                "{} ({states} states), {name}: {units} units, {marks} marks",
+                subject.name
             );
+            let library = times.library.as_secs_f64();
+            println!("  library             {:7.1} us", 1e6 * library);
+            for (name, time) in [("same tree", times.same_tree), ("no tree  ", times.no_tree)] {
+                let rust = time.as_secs_f64();
+                let ratio = library / rust;
+                println!("  Rust with {name} {:7.1} us, ratio {ratio:.2}", 1e6 * rust);
+            }
         }
     }
     for subject in &subjects {
@@ -57,7 +56,7 @@ fn main() {
                 let times = subject.time(&tokens_of(count));
                 let each = |time: Duration| time.as_nanos() as f64 / count as f64;
                 println!(
-                    "  {count:5} tokens: library {:6.1}, Rust with the same tree {:6.1}",
+                    "  {count:5} tokens: library {:6.1}, Rust with same tree {:6.1}",
                     each(times.library),
                     each(times.same_tree)
                 );
