@@ -120,7 +120,7 @@ fn random_runs_and_random_limits() {
             trial.try_with(Entry::Drive, budget, tight, &mut counts);
 
             let large = specimen.tables.items.len() > MOST_ITEMS_CHECKED_ALWAYS;
-            if !large || run == 0 && random.one_in(4) {
+            if !large || run == 0 && random.one_in(10) {
                 trial.try_with(Entry::Parse, BUDGET, rooms, &mut counts);
                 trial.try_with(Entry::Parse, budget, tight, &mut counts);
             }

@@ -26,7 +26,11 @@ fn the_library_gives_every_stored_answer() {
         let tokens = token_bytes(&case.tokens);
         // As deep as any run of so many units can be; then just what it filled, and some odd bytes.
         let exactly = RoomBytes::filled_by(run, run.units as usize + 1);
-        for rooms in [exactly, exactly.and(3), exactly.and(101)] {
+        for (entry, rooms) in [
+            (Entry::Drive, exactly),
+            (Entry::Drive, exactly.and(3)),
+            (Entry::Parse, exactly.and(101)),
+        ] {
             let call = Call {
                 payloads: &payloads[case.table],
                 input: Input {
@@ -36,9 +40,8 @@ fn the_library_gives_every_stored_answer() {
                 },
                 rooms,
             };
-            call.must_do(Entry::Drive, Ok(run));
-            call.must_do(Entry::Parse, Ok(run));
+            call.must_do(entry, Ok(run));
         }
     }
-    println!("stored list: {} cases, 6 calls each", list.cases.len());
+    println!("stored list: {} cases, 3 calls each", list.cases.len());
 }
