@@ -117,6 +117,7 @@ done
 for compiler in g++ clang++; do
     command -v "$compiler" > /dev/null || { echo "$compiler is not here, and is left out."; continue; }
     build "$work/underline_$compiler" underline.c "$compiler" -x c++ -std=c++11
+    build "$work/underline_$compiler" underline.c "$compiler" -x c++ -std=c++20
 done
 
 # As someone who has it installed builds it.

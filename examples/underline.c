@@ -52,7 +52,7 @@ static struct {
               {"--records", MOST_RECORDS}};
 
 /* The limits stand in the order of their answers: 19, 20, 21, 22, 23. */
-static uint32_t limit_of(uint32_t answer) { return limits[answer - CHAMROLAK_OUT_OF_UNITS].number; }
+static size_t limit_of(uint32_t answer) { return limits[answer - CHAMROLAK_OUT_OF_UNITS].number; }
 
 /* ---- The recipe's text and its tokens ---- */
 
@@ -496,7 +496,7 @@ static int parse(void) {
   uint32_t record, marks;
   chamrolak_result result;
   chamrolak_rooms rooms;
-  uint32_t depth = limit_of(CHAMROLAK_OUT_OF_DEPTH);
+  size_t depth = limit_of(CHAMROLAK_OUT_OF_DEPTH);
   rooms.stack = stack;
   rooms.stack_length = depth * CHAMROLAK_STACK_BYTES;
   rooms.scratch = scratch;
@@ -509,7 +509,7 @@ static int parse(void) {
   rooms.records_length = limit_of(CHAMROLAK_OUT_OF_RECORDS) * CHAMROLAK_RECORD_BYTES;
   rooms.report = report;
   result = chamrolak_drive_with(&recipe_tables, tokens, token_count * CHAMROLAK_TOKEN_BYTES, 0,
-                                limit_of(CHAMROLAK_OUT_OF_UNITS), &rooms);
+                                (uint32_t)limit_of(CHAMROLAK_OUT_OF_UNITS), &rooms);
   /* Nothing has been written by a refusal: the report is still all 0, so it counts no record. */
   marks = chamrolak_word(report, CHAMROLAK_REPORT_RECORD_COUNT);
   for (record = 0; record < marks; record++)

@@ -98,17 +98,16 @@ typedef struct {
  * number, 20 to 23, and can be lent again, larger; and of records no more are needed than the
  * errors that a person should see at once.
  */
-enum {
-  CHAMROLAK_TOKEN_BYTES = 12,            /* three words: kind, start, end */
-  CHAMROLAK_STACK_BYTES = 32,            /* for each state of depth */
-  CHAMROLAK_SCRATCH_BYTES = 4,           /* for each state of depth */
-  CHAMROLAK_NODE_BYTES = 32,             /* 8 words */
-  CHAMROLAK_CHILD_BYTES = 4,             /* 1 word: the child's node number */
-  CHAMROLAK_RECORD_BYTES = 64,           /* 16 words */
-  CHAMROLAK_REPORT_BYTES = 64,           /* 16 words */
-  CHAMROLAK_MOST_TOKENS = 4096,          /* one more is refusal 18 */
-  CHAMROLAK_TOKENIZER_ERROR_KIND = 65535 /* a token of this kind ends the run with answer 6 */
-};
+#define CHAMROLAK_TOKEN_BYTES 12  /* three words: kind, start, end */
+#define CHAMROLAK_STACK_BYTES 32  /* for each state of depth */
+#define CHAMROLAK_SCRATCH_BYTES 4 /* for each state of depth */
+#define CHAMROLAK_NODE_BYTES 32   /* 8 words */
+#define CHAMROLAK_CHILD_BYTES 4   /* 1 word: the child's node number */
+#define CHAMROLAK_RECORD_BYTES 64 /* 16 words */
+#define CHAMROLAK_REPORT_BYTES 64 /* 16 words */
+
+#define CHAMROLAK_MOST_TOKENS 4096           /* one more is refusal 18 */
+#define CHAMROLAK_TOKENIZER_ERROR_KIND 65535 /* a token of this kind ends the run with answer 6 */
 
 /* ---- What comes back: the words of nodes, records and the report ---- */
 

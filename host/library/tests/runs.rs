@@ -41,8 +41,9 @@ impl<'a> Trial<'a> {
         drive(self.tables, &self.tokens, self.start_location, limits)
     }
 
-    /// Makes the call with this budget and these rooms, and holds it to the rules.
-    fn try_with(&self, entry: Entry, budget: u32, rooms: RoomBytes, counts: &mut Counts) {
+    /// Makes the call with this budget and these rooms, and holds it to the rules. Counts and gives
+    /// the answer's number.
+    fn try_with(&self, entry: Entry, budget: u32, rooms: RoomBytes, counts: &mut Counts) -> u32 {
         let input = Input {
             tokens: &self.token_bytes,
             start_location: self.start_location,
@@ -53,7 +54,9 @@ impl<'a> Trial<'a> {
             input,
             rooms,
         };
-        counts.add(call.must_do_as_the_rules_say(entry));
+        let answer = call.must_do_as_the_rules_say(entry);
+        counts.add(answer);
+        answer
     }
 }
 
@@ -127,6 +130,23 @@ fn random_runs_and_random_limits() {
         }
     }
     counts.print_and_require("random runs", (1..=6).chain(19..=23), 100);
+}
+
+#[test]
+fn the_rooms_that_the_header_calls_enough_are() {
+    let mut random = Random::new(14);
+    let mut counts = Counts::default();
+    for _ in 0..3_000 {
+        let specimen = random_specimen(&mut random);
+        let payloads = specimen.tables.encode();
+        let tokens = random_tokens(&mut random, &specimen.grammar, 20);
+        let trial = Trial::new(&specimen.tables, &payloads, tokens, 0);
+        let budget = random.below(100);
+        let rooms = RoomBytes::enough_for(budget);
+        let answer = trial.try_with(Entry::Drive, budget as u32, rooms, &mut counts);
+        assert!(answer <= 19, "answer {answer} under a budget of {budget}");
+    }
+    counts.print_and_require("rooms by the budget", (1..=6).chain([19]), 10);
 }
 
 /// Cuts a run at these budgets, and at these numbers of entries below what it filled: at depth,
