@@ -4,14 +4,20 @@
 //! state searched, each simulated look." So one step of the machine is one look and what it then
 //! does. The budget is tested before the look; every other limit before what that look pushes, so a
 //! step that a limit stops writes nothing, and its look is counted.
+//!
+//! The machine is total: where tables that pass the check never lead, it does what crates/rules says
+//! (`unchecked` has the sentence).
 
 use crate::answer::{
     Answer, Expected, Limit, Limits, Node, Record, Run, NODE_MARK, NODE_PRODUCTION, NODE_TOKEN,
 };
-use crate::tables::{Cell, Tables, Token};
+use crate::tables::{Cell, Readers, Token};
 
 /// "Kind 65535 is the tokenizer's own error."
 pub const TOKENIZER_ERROR_KIND: u32 = 65_535;
+
+/// "8 words of expected bits."
+const MOST_EXPECTED: usize = 256;
 
 /// What a run left, and the most states that stood on a stack in it, real or simulated.
 #[derive(Clone, Debug, PartialEq, Eq)]
@@ -20,8 +26,13 @@ pub struct Driven {
     pub deepest: usize,
 }
 
-/// Runs tables that pass the check over a token list that passes 18.
-pub fn drive(tables: &Tables, tokens: &[Token], start_location: u32, limits: &Limits) -> Driven {
+/// Runs tables over a token list that passes 18.
+pub fn drive<T: Readers>(
+    tables: &T,
+    tokens: &[Token],
+    start_location: u32,
+    limits: &Limits,
+) -> Driven {
     let mut machine = Machine {
         tables,
         tokens,
@@ -49,8 +60,8 @@ pub fn drive(tables: &Tables, tokens: &[Token], start_location: u32, limits: &Li
     }
 }
 
-struct Machine<'a> {
-    tables: &'a Tables,
+struct Machine<'a, T> {
+    tables: &'a T,
     tokens: &'a [Token],
     start_location: u32,
     limits: &'a Limits,
@@ -93,7 +104,7 @@ struct FormedError {
     expected: Expected,
 }
 
-impl Machine<'_> {
+impl<T: Readers> Machine<'_, T> {
     fn run(&mut self) -> Answer {
         let mut next = self.begin();
         loop {
@@ -128,11 +139,9 @@ impl Machine<'_> {
     }
 
     fn look_in_main_loop(&mut self) -> Result<Mode, Answer> {
-        match self
-            .tables
-            .action(self.top_state(), self.lookahead_column())
-        {
-            Cell::Shift(state) => {
+        let cell = (self.tables).action(self.top_state(), self.lookahead_column());
+        match cell {
+            Cell::Shift(state) if self.lookahead_token().is_some() => {
                 self.shift(state)?;
                 self.lookahead += 1;
                 self.judge_lookahead()?;
@@ -149,12 +158,13 @@ impl Machine<'_> {
                 self.reduce(production)?;
                 Ok(Mode::Main)
             }
-            // "Flag 0: an error cell gives 3, or 4 at the end, at once."
-            Cell::Error => {
+            // "Flag 0: an error cell gives 3, or 4 at the end, at once." A shift at the end, which the
+            // check refuses with 11, is an error too.
+            Cell::Error | Cell::Shift(_) => {
                 let error = self.form_error();
-                match self.tables.flag {
-                    0 => Err(error.answer),
-                    _ => Ok(Mode::ErrorColumn(error)),
+                match self.tables.recovers() {
+                    false => Err(error.answer),
+                    true => Ok(Mode::ErrorColumn(error)),
                 }
             }
         }
@@ -203,10 +213,11 @@ impl Machine<'_> {
                 Ok(Mode::Main)
             }
             Cell::Reduce(production) => {
-                let production = &self.tables.productions[production];
-                states.truncate(states.len() - production.right.len());
+                let (left, size) = self.tables.production(production);
+                // The first state stays, whatever is popped.
+                states.truncate(states.len().saturating_sub(size).max(1));
                 let top = *states.last().expect("the first state at least");
-                let state = self.goto(top, production.left);
+                let state = self.tables.goto_state(top, left);
                 self.push_simulated(&mut states, state)?;
                 Ok(Mode::Simulate(error, kept, states))
             }
@@ -239,7 +250,7 @@ impl Machine<'_> {
             return Err(Answer::TokenizerError { token });
         }
         self.last_location = read.end;
-        if read.kind >= u32::from(self.tables.kinds) {
+        if read.kind as usize >= self.tables.t() {
             let expected = self.expected_kinds();
             return Err(Answer::UnrecognizedToken { token, expected });
         }
@@ -267,7 +278,7 @@ impl Machine<'_> {
     /// "Expected kinds: user kinds whose cell in the top state is not 0."
     fn expected_kinds(&self) -> Expected {
         let cell = |kind: u32| self.tables.action(self.top_state(), kind as usize);
-        (0..u32::from(self.tables.kinds))
+        (0..self.tables.t().min(MOST_EXPECTED) as u32)
             .filter(|&kind| cell(kind) != Cell::Error)
             .collect()
     }
@@ -294,9 +305,9 @@ impl Machine<'_> {
     /// empty stretch or production holds the lookahead's index twice." "Unused fields, and an empty
     /// production's first child entry, are 0."
     fn reduce(&mut self, number: usize) -> Result<(), Answer> {
-        let production = &self.tables.productions[number];
-        let count = production.right.len();
-        let kept = self.stack.len() - count;
+        let (left, size) = self.tables.production(number);
+        let kept = self.stack.len().saturating_sub(size);
+        let count = self.stack.len() - kept;
         self.test_depth(kept + 2)?;
         self.test(
             self.child_entries.len() + count,
@@ -321,7 +332,7 @@ impl Machine<'_> {
         let popped = self.stack.split_off(kept);
         self.child_entries
             .extend(popped.iter().map(|entry| entry.node as u32));
-        let state = self.goto(self.top_state(), production.left);
+        let state = self.tables.goto_state(self.top_state(), left);
         self.push(
             state,
             NODE_PRODUCTION,
@@ -425,10 +436,7 @@ impl Machine<'_> {
 
     /// "Production 0 .. builds no node": the root is the node of its one symbol.
     fn root(&self) -> u32 {
-        let [entry] = self.stack[..] else {
-            unreachable!("tables that pass the check reduce production 0 over exactly one symbol");
-        };
-        entry.node as u32
+        self.stack.last().map_or(0, |entry| entry.node as u32)
     }
 
     fn lookahead_token(&self) -> Option<Token> {
@@ -438,7 +446,7 @@ impl Machine<'_> {
     fn lookahead_column(&self) -> usize {
         match self.lookahead_token() {
             Some(token) => token.kind as usize,
-            None => self.tables.end_column(),
+            None => self.tables.t() + 1,
         }
     }
 
@@ -455,12 +463,7 @@ impl Machine<'_> {
     }
 
     fn error_cell(&self, state: usize) -> Cell {
-        self.tables.action(state, self.tables.error_column())
-    }
-
-    fn goto(&self, state: usize, nonterminal: u16) -> usize {
-        let target = self.tables.goto(state, nonterminal.into());
-        target.expect("tables that pass the check have every goto that is needed")
+        self.tables.action(state, self.tables.t())
     }
 
     fn push_simulated(&mut self, states: &mut Vec<usize>, state: usize) -> Result<(), Answer> {

@@ -2,7 +2,9 @@
 //! damaged so that it refuses them, token lists with sentences, errors and odd kinds and locations.
 
 use crate::automaton::{self, Merging};
-use crate::bench::{table_a, table_a_that_ends_early, table_a_without_error_production};
+use crate::bench::{
+    set_action, table_a, table_a_that_ends_early, table_a_without_error_production,
+};
 use crate::drive::TOKENIZER_ERROR_KIND;
 use crate::grammar::Grammar;
 use crate::random::Random;
@@ -146,12 +148,6 @@ pub fn endless_specimen() -> Specimen {
     let production = |left, right: &[u16]| Production {
         left,
         right: right.to_vec(),
-    };
-    let item = |[state, production, dot, lookahead]: [u16; 4]| Item {
-        state,
-        production,
-        dot,
-        lookahead,
     };
     let mut sets = vec![FirstSet::default(); 3];
     sets[0].insert(0);
@@ -317,6 +313,67 @@ pub fn random_location(random: &mut Random) -> u32 {
         1 => u32::MAX,
         2 => random.below(50) as u32,
         _ => random.next_number() as u32,
+    }
+}
+
+/// Tables of these sizes for p0 S to N and p1 N to nothing. All other productions, of the last
+/// nonterminal to 32 times kind 0, and all states but 0 and 1 are there for their number only.
+pub fn tables_of_sizes(
+    states: usize,
+    kinds: u16,
+    nonterminals: usize,
+    productions: usize,
+) -> Tables {
+    let end = kinds + 1;
+    let symbol_of_n = kinds + 2;
+    let production = |left, right| Production { left, right };
+    let mut rules = vec![production(0, vec![symbol_of_n]), production(1, vec![])];
+    rules.resize(
+        productions,
+        production(nonterminals as u16 - 1, vec![0; 32]),
+    );
+    let mut first_set = FirstSet {
+        nullable: 1,
+        ..FirstSet::default()
+    };
+    first_set.insert(0);
+    let mut tables = Tables {
+        states: states as u16,
+        kinds,
+        flag: 1,
+        actions: vec![0; states * (usize::from(kinds) + 2)],
+        gotos: vec![0; states * nonterminals],
+        productions: rules,
+        items: [[0, 0, 0, end], [0, 1, 0, end], [1, 0, 1, end]]
+            .map(item)
+            .to_vec(),
+        first_sets: vec![first_set; nonterminals],
+    };
+    tables.gotos[1] = 2;
+    set_action(&mut tables, 0, end.into(), -2);
+    set_action(&mut tables, 1, end.into(), -1);
+    tables
+}
+
+/// Every size at its end, and 65,535 items: states that nothing enters may hold p0 at its end, with
+/// every lookahead that p0 reduces under.
+pub fn tables_with_the_most_items() -> Tables {
+    let mut tables = tables_of_sizes(1_024, 254, 255, 1_024);
+    let columns = tables.columns();
+    let places = (2..1_024).flat_map(|state| (0..columns).map(move |column| (state, column)));
+    for (state, column) in places.take(65_535 - tables.items.len()) {
+        set_action(&mut tables, state, column, -1);
+        tables.items.push(item([state as u16, 0, 1, column as u16]));
+    }
+    tables
+}
+
+fn item([state, production, dot, lookahead]: [u16; 4]) -> Item {
+    Item {
+        state,
+        production,
+        dot,
+        lookahead,
     }
 }
 

@@ -18,18 +18,9 @@ impl Grammar {
     /// nonterminals, `error` is the error token, and all others are user kinds, both numbered as
     /// they come.
     pub fn from_text(text: &str) -> Grammar {
-        let rules: Vec<(&str, &str)> = (text.lines())
-            .filter_map(|line| line.split_once(": "))
-            .map(|(left, right)| (left.trim(), right))
-            .collect();
+        let rules = rules_of(text);
         let nonterminal = |name: &str| rules.iter().position(|(left, _)| *left == name);
-        let mut kinds: Vec<&str> = Vec::new();
-        for name in rules.iter().flat_map(|(_, right)| right.split_whitespace()) {
-            let is_kind = name != "|" && name != "error" && nonterminal(name).is_none();
-            if is_kind && !kinds.contains(&name) {
-                kinds.push(name);
-            }
-        }
+        let kinds = Grammar::kind_names(text);
         let symbol = |name: &str| {
             let kind = kinds.iter().position(|kind| *kind == name);
             let number = match nonterminal(name) {
@@ -50,6 +41,20 @@ impl Grammar {
             nonterminals: rules.len() as u16,
             productions,
         }
+    }
+
+    /// The names of the user kinds in such a text, by number.
+    pub fn kind_names(text: &str) -> Vec<&str> {
+        let rules = rules_of(text);
+        let mut kinds: Vec<&str> = Vec::new();
+        for name in rules.iter().flat_map(|(_, right)| right.split_whitespace()) {
+            let is_nonterminal = rules.iter().any(|(left, _)| *left == name);
+            let is_kind = name != "|" && name != "error" && !is_nonterminal;
+            if is_kind && !kinds.contains(&name) {
+                kinds.push(name);
+            }
+        }
+        kinds
     }
 
     pub fn error_token(&self) -> u16 {
@@ -153,6 +158,14 @@ impl Grammar {
         }
         sentence
     }
+}
+
+/// The lines of a grammar's text: left side, and all its right sides.
+fn rules_of(text: &str) -> Vec<(&str, &str)> {
+    (text.lines())
+        .filter_map(|line| line.split_once(": "))
+        .map(|(left, right)| (left.trim(), right))
+        .collect()
 }
 
 #[cfg(test)]

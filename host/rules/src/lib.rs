@@ -1,9 +1,11 @@
 //! Document 01's rules as plain Rust: what every other form of the driver is judged by.
 //!
 //! `tables`, `check`, `answer`, `drive` and `file` render the sections of document 01 in the paper's
-//! order. They were written from its text, and not from the Rust driver that it ports. `bench` holds
-//! the paper's own examples. `grammar`, `automaton`, `generate` and `random` make tables and inputs
-//! for tests, and `vectors` reads and writes the stored list of answers.
+//! order. They were written from its text, and not from the Rust driver that it ports; `unchecked` is
+//! a run over tables of which the paper does not speak. `bench` holds the paper's own examples.
+//! `grammar`, `automaton`, `generate` and `random` make tables and inputs for tests, and `example`
+//! those of examples/; `vectors` reads and writes the stored list of answers, and `tally` is what the
+//! programs that compare have in common.
 #![forbid(unsafe_code)]
 
 pub mod answer;
@@ -11,11 +13,14 @@ pub mod automaton;
 pub mod bench;
 pub mod check;
 pub mod drive;
+pub mod example;
 pub mod file;
 pub mod generate;
 pub mod grammar;
 pub mod random;
 pub mod tables;
+pub mod tally;
+pub mod unchecked;
 pub mod vectors;
 
 use answer::{Limits, Refusal};

@@ -99,6 +99,43 @@ pub enum Symbol {
     Nonterminal(usize),
 }
 
+/// What a run reads of its tables.
+pub trait Readers {
+    /// t, the number of user kinds; also the error token's column.
+    fn t(&self) -> usize;
+    fn recovers(&self) -> bool;
+    fn action(&self, state: usize, column: usize) -> Cell;
+    /// The state that a reduction to this nonterminal goes to.
+    fn goto_state(&self, state: usize, nonterminal: usize) -> usize;
+    /// A production's left side, and the number of its symbols.
+    fn production(&self, number: usize) -> (usize, usize);
+}
+
+/// Of tables that pass the check: a place outside of them is never read.
+impl Readers for Tables {
+    fn t(&self) -> usize {
+        self.t()
+    }
+
+    fn recovers(&self) -> bool {
+        self.flag == 1
+    }
+
+    fn action(&self, state: usize, column: usize) -> Cell {
+        self.action(state, column)
+    }
+
+    fn goto_state(&self, state: usize, nonterminal: usize) -> usize {
+        let target = self.goto(state, nonterminal);
+        target.expect("tables that pass the check have every goto that is needed")
+    }
+
+    fn production(&self, number: usize) -> (usize, usize) {
+        let production = &self.productions[number];
+        (production.left.into(), production.right.len())
+    }
+}
+
 impl Tables {
     /// t as an index; also the error token's column and symbol.
     pub fn t(&self) -> usize {

@@ -3,7 +3,8 @@
 use chamrolak_rules::answer::Refusal;
 use chamrolak_rules::bench::{numbered_tokens, set_action, table_a};
 use chamrolak_rules::check::{check, read_tokens};
-use chamrolak_rules::tables::{token_bytes, FirstSet, Item, Payloads, Production, Tables};
+use chamrolak_rules::generate::{tables_of_sizes, tables_with_the_most_items};
+use chamrolak_rules::tables::{token_bytes, Item, Payloads, Tables};
 
 /// The refusal's number and place after a change to table A; (0, 0) if it passes.
 fn after(change: impl FnOnce(&mut Tables)) -> (u32, usize) {
@@ -56,49 +57,17 @@ fn refusal_10_sizes_flags_and_set_bits() {
     assert_eq!(refusal(&odd), (10, 0));
 }
 
-/// Tables of these sizes for p0 S to N and p1 N to nothing. All other productions, of the last
-/// nonterminal to 32 times kind 0, and all states but 0 and 1 are there for their number only.
-fn of_sizes(states: usize, kinds: u16, nonterminals: usize, productions: usize) -> Tables {
-    let end = kinds + 1;
-    let symbol_of_n = kinds + 2;
-    let production = |left, right| Production { left, right };
-    let mut rules = vec![production(0, vec![symbol_of_n]), production(1, vec![])];
-    rules.resize(
-        productions,
-        production(nonterminals as u16 - 1, vec![0; 32]),
-    );
-    let mut first_set = FirstSet {
-        nullable: 1,
-        ..FirstSet::default()
-    };
-    first_set.insert(0);
-    let mut tables = Tables {
-        states: states as u16,
-        kinds,
-        flag: 1,
-        actions: vec![0; states * (usize::from(kinds) + 2)],
-        gotos: vec![0; states * nonterminals],
-        productions: rules,
-        items: vec![item(0, 0, 0, end), item(0, 1, 0, end), item(1, 0, 1, end)],
-        first_sets: vec![first_set; nonterminals],
-    };
-    tables.gotos[1] = 2;
-    set_action(&mut tables, 0, end.into(), -2);
-    set_action(&mut tables, 1, end.into(), -1);
-    tables
-}
-
 #[test]
 fn sizes_at_their_ends() {
     let refusal_of = |tables: Tables| refusal(&tables.encode());
-    assert_eq!(refusal_of(of_sizes(1_024, 254, 255, 1_024)), (0, 0));
-    assert_eq!(refusal_of(of_sizes(1_025, 254, 255, 1_024)), (10, 0));
-    assert_eq!(refusal_of(of_sizes(1_024, 255, 255, 1_024)), (10, 0));
-    assert_eq!(refusal_of(of_sizes(1_024, 254, 256, 1_024)), (10, 0));
-    assert_eq!(refusal_of(of_sizes(1_024, 254, 255, 1_025)), (10, 0));
-    assert_eq!(refusal_of(of_sizes(2, 1, 3, 3)), (0, 0));
+    assert_eq!(refusal_of(tables_of_sizes(1_024, 254, 255, 1_024)), (0, 0));
+    assert_eq!(refusal_of(tables_of_sizes(1_025, 254, 255, 1_024)), (10, 0));
+    assert_eq!(refusal_of(tables_of_sizes(1_024, 255, 255, 1_024)), (10, 0));
+    assert_eq!(refusal_of(tables_of_sizes(1_024, 254, 256, 1_024)), (10, 0));
+    assert_eq!(refusal_of(tables_of_sizes(1_024, 254, 255, 1_025)), (10, 0));
+    assert_eq!(refusal_of(tables_of_sizes(2, 1, 3, 3)), (0, 0));
     for size in 0..4 {
-        let mut payloads = of_sizes(2, 1, 3, 3).encode();
+        let mut payloads = tables_of_sizes(2, 1, 3, 3).encode();
         payloads.sizes[2 * size..][..2].fill(0);
         assert_eq!(refusal(&payloads), (10, 0), "size {size}");
     }
@@ -106,18 +75,9 @@ fn sizes_at_their_ends() {
 
 #[test]
 fn the_most_items_pass() {
-    let mut tables = of_sizes(1_024, 254, 255, 1_024);
-    // States that nothing enters may hold p0 at its end, with every lookahead that p0 reduces under.
-    for state in 2.. {
-        for column in 0..tables.columns() {
-            if tables.items.len() == 65_535 {
-                assert_eq!(refusal(&tables.encode()), (0, 0));
-                return;
-            }
-            set_action(&mut tables, state, column, -1);
-            tables.items.push(item(state as u16, 0, 1, column as u16));
-        }
-    }
+    let tables = tables_with_the_most_items();
+    assert_eq!(tables.items.len(), 65_535);
+    assert_eq!(refusal(&tables.encode()), (0, 0));
 }
 
 #[test]

@@ -4,11 +4,10 @@
 
 use chamrolak_rules::answer::{Limits, Run};
 use chamrolak_rules::drive::drive;
-use chamrolak_rules::generate::{random_location, random_specimen, random_tokens, Origin};
-use chamrolak_rules::random::Random;
+use chamrolak_rules::generate::{random_location, random_specimen, random_tokens};
 use chamrolak_rules::tables::{Tables, Token};
+use chamrolak_rules::tally::{runs_and_random, Tally};
 use chamrolak_rules::vectors::{Case, StoredList};
-use std::collections::BTreeMap;
 use std::panic::catch_unwind;
 use std::process::ExitCode;
 
@@ -81,55 +80,14 @@ impl Input<'_> {
     }
 }
 
-#[derive(Default)]
-struct Counts {
-    tables: BTreeMap<Origin, u64>,
-    answers: BTreeMap<u32, u64>,
-    marks: u64,
-    marks_that_pop: u64,
-    dropped_tokens: u64,
-    units: u64,
-}
-
-impl Counts {
-    fn add(&mut self, run: &Run) {
-        *self.answers.entry(run.answer.number()).or_default() += 1;
-        self.units += run.units;
-        for record in &run.records {
-            self.marks += 1;
-            self.marks_that_pop += u64::from(record[2] < record[4]);
-            self.dropped_tokens += u64::from(record[3] - record[4]);
-        }
-    }
-
-    fn print(&self) {
-        for (origin, count) in &self.tables {
-            println!("tables {origin:?}: {count}");
-        }
-        for (answer, count) in &self.answers {
-            println!("answer {answer}: {count}");
-        }
-        let (marks, popping, dropped) = (self.marks, self.marks_that_pop, self.dropped_tokens);
-        println!("marks: {marks}, of which {popping} over popped tokens");
-        println!("dropped tokens under marks: {dropped}");
-        println!("units: {}", self.units);
-    }
-}
-
 fn main() -> ExitCode {
-    let mut arguments = std::env::args().skip(1);
-    let mut number = |default| match arguments.next() {
-        Some(argument) => argument.parse().expect("a number"),
-        None => default,
-    };
-    let runs: u64 = number(DEFAULT_RUNS);
-    let mut random = Random::new(number(1));
-    let mut counts = Counts::default();
+    let (runs, mut random) = runs_and_random(DEFAULT_RUNS);
+    let mut tally = Tally::default();
     let mut specimen = random_specimen(&mut random);
     for run in 0..runs {
         if run % RUNS_OF_A_TABLE == 0 {
             specimen = random_specimen(&mut random);
-            *counts.tables.entry(specimen.origin).or_default() += 1;
+            tally.add_table(specimen.origin);
         }
         let size = random.between(1, 25);
         let whole = Input {
@@ -149,9 +107,9 @@ fn main() -> ExitCode {
         if cut.agreed_run().is_none() {
             return report_difference(run, cut);
         }
-        counts.add(&agreed);
+        tally.add(&agreed);
     }
-    counts.print();
+    tally.print();
     println!("differential: {runs} runs, 0 differences");
     ExitCode::SUCCESS
 }
