@@ -1,6 +1,6 @@
 #!/usr/bin/env bash
-# Every test of the repository: proves every crate from nothing, tries the must-fail edits, runs the programs, then the Rust
-# programs of host/. Stops at the first failure; the very last line counts all that ran.
+# Every test of the repository: proves every crate from nothing, tries the must-fail edits and runs the programs; builds the static
+# library; then the Rust programs of host/ and the C example over it. Stops at the first failure; the very last line counts all that ran.
 set -euo pipefail
 cd "$(dirname "$0")"
 
@@ -25,6 +25,9 @@ fi
 
 rt fmt --check
 count rt ci
+rt staticlib chamrolak
 count host/test.sh
+count host/library/test.sh
+count examples/test.sh
 
 echo "$passed passed, 0 failed"

@@ -76,21 +76,26 @@ module _ (C : Call) (room scratch u : ℕ) where
       kept-pick (eqb (tokenKind C (s .next)) 65535) (ended s (TokenizerError (s .next)))
       (pick (ltb (tokenKind C (s .next)) (kinds (C .tables))) read (ended read unknown))
       (λ e. kept-ended 0 s (TokenizerError (s .next)) (k .0))
-      (λ e. kept-pick (ltb (tokenKind C (s .next)) (kinds (C .tables))) read (ended read unknown) (λ e. r) (λ e. kept-ended 0 read unknown (r .0)))
+      (λ e. kept-pick (ltb (tokenKind C (s .next)) (kinds (C .tables))) read (ended read unknown) (λ e. r)
+      (λ e. kept-ended 0 read unknown (r .0)))
 
   pub kept-arrived : (s : St) (top : ℕ) → After s → After (arrived C s top)
   unfolding arrived
   kept-arrived s top k = kept-pick (hasToken C s) (judged C s top) s (λ e. kept-judged s top k) (λ e. k)
 
   -- what a look pushes
-  kept-grown : (s : St) (height kids marks next : ℕ) (m : Mode) → Before s → height + 1 ≤ C .depth → s .children + kids + height ≤ s .nodes + 1 → marks ≤ 1 → next ≤ C .count → Within m (C .depth) (s .popped) height → After (grown s height kids marks next m)
+  kept-grown : (s : St) (height kids marks next : ℕ) (m : Mode) → Before s → height + 1 ≤ C .depth →
+      s .children + kids + height ≤ s .nodes + 1 → marks ≤ 1 → next ≤ C .count → Within m (C .depth) (s .popped) height →
+      After (grown s height kids marks next m)
   kept-grown s height kids marks next m k a b c d e = (search needs, e)
 
-  kept-shifted : (w : World) (to : StateNo) → Before (w .st) → w .st .next < C .count → w .st .height + 2 ≤ C .depth → After (shifted C w to .st)
+  kept-shifted : (w : World) (to : StateNo) → Before (w .st) → w .st .next < C .count → w .st .height + 2 ≤ C .depth →
+      After (shifted C w to .st)
   unfolding shifted push
   kept-shifted w to k h d =
       kept-arrived (grown (w .st) (w .st .height + 1) 0 0 (w .st .next + 1) Main) (to .0)
-      (kept-grown (w .st) (w .st .height + 1) 0 0 (w .st .next + 1) Main k (omega arith) (omega arith) (omega arith) (omega arith) tt)
+      (kept-grown (w .st) (w .st .height + 1) 0 0 (w .st .next + 1) Main k (omega arith) (omega arith) (omega arith)
+      (omega arith) tt)
 
   kept-shift : (w : World) (to : StateNo) → Before (w .st) → w .st .next < C .count → After (shift C w to .st)
   unfolding shift
@@ -103,12 +108,15 @@ module _ (C : Call) (room scratch u : ℕ) where
   abbrev Free : St → Type 0
   Free s = (height : ℕ) → Within (s .mode) (C .depth) (s .popped) height
 
-  kept-reduced : (w : World) (p k rest : ℕ) → Before (w .st) → Free (w .st) → rest + k ≡ w .st .height → rest + 2 ≤ C .depth → After (reduced C w p k rest .st)
+  kept-reduced : (w : World) (p k rest : ℕ) → Before (w .st) → Free (w .st) → rest + k ≡ w .st .height → rest + 2 ≤ C .depth →
+      After (reduced C w p k rest .st)
   unfolding reduced push
   kept-reduced w p n rest k f e d =
-      kept-grown (w .st) (rest + 1) n 0 (w .st .next) (w .st .mode) k (omega arith) (omega arith) (omega arith) (omega arith) (f (rest + 1))
+      kept-grown (w .st) (rest + 1) n 0 (w .st .next) (w .st .mode) k (omega arith) (omega arith) (omega arith) (omega arith)
+      (f (rest + 1))
 
-  kept-over : (w : World) (p k rest : ℕ) → Before (w .st) → Free (w .st) → rest + k ≡ w .st .height → After (reduceOver C w p k rest .st)
+  kept-over : (w : World) (p k rest : ℕ) → Before (w .st) → Free (w .st) → rest + k ≡ w .st .height →
+      After (reduceOver C w p k rest .st)
   unfolding reduceOver
   kept-over w p n rest k f e =
       let o : World = reduced C w p n rest in
@@ -122,7 +130,8 @@ module _ (C : Call) (room scratch u : ℕ) where
   kept-reduce : (w : World) (p : ℕ) → Before (w .st) → Free (w .st) → After (reduce C w p .st)
   unfolding reduce
   kept-reduce w p k f =
-      kept-over w p (min (size (C .tables) p) (w .st .height)) (w .st .height - min (size (C .tables) p) (w .st .height)) k f (omega (arith, min-le-right (size (C .tables) p) (w .st .height)))
+      kept-over w p (min (size (C .tables) p) (w .st .height)) (w .st .height - min (size (C .tables) p)
+      (w .st .height)) k f (omega (arith, min-le-right (size (C .tables) p) (w .st .height)))
 
   -- an error
   kept-failing : (s : St) (f : Formed) → Before s → After (failing s f)
@@ -141,7 +150,8 @@ module _ (C : Call) (room scratch u : ℕ) where
   kept-main-reduce w false zero k f = kept-ended 1 (w .st) _ k
   kept-main-reduce w token (suc p) k f = kept-reduce w (suc p) k f
 
-  kept-main : (w : World) (token : Bool) (cell : Cell) → hasToken C (w .st) ≡ token → Before (w .st) → Free (w .st) → After (mainLook C w token cell .st)
+  kept-main : (w : World) (token : Bool) (cell : Cell) → hasToken C (w .st) ≡ token → Before (w .st) → Free (w .st) →
+      After (mainLook C w token cell .st)
   unfolding mainLook
   kept-main w true (Shift s) e k f = kept-shift w s k (ltb-true _ _ e)
   kept-main w false (Shift s) e k f = kept-fail w _ k
@@ -183,14 +193,18 @@ module _ (C : Call) (room scratch u : ℕ) where
   kept-further : (w : World) → Before (w .st) → After (further C w .st)
   unfolding further
   kept-further w k =
-      pick-case (λ o. After (o .st)) (ltb (w .st .popped) (w .st .height)) (withSt w (searching (w .st) (w .st .popped + 1))) (dropToken C w)
-      (λ e. let h : w .st .popped < w .st .height = ltb-true _ _ e in kept-searching (w .st) (w .st .popped + 1) k (omega arith))
+      pick-case (λ o. After (o .st)) (ltb (w .st .popped) (w .st .height)) (withSt w (searching (w .st) (w .st .popped + 1)))
+      (dropToken C w)
+      (λ e. let h : w .st .popped < w .st .height = ltb-true _ _ e in kept-searching (w .st)
+      (w .st .popped + 1) k (omega arith))
       (λ e. kept-drop w k)
 
-  kept-simulating : (s : St) (base pushed : ℕ) → Before s → 32 * base ≤ room → base + pushed + 2 ≤ C .depth → Above s → After (simulating s base (pushed + 1))
+  kept-simulating : (s : St) (base pushed : ℕ) → Before s → 32 * base ≤ room → base + pushed + 2 ≤ C .depth → Above s →
+      After (simulating s base (pushed + 1))
   kept-simulating s base pushed k h d i = (search needs, i)
 
-  kept-simulate-on : (w : World) (base pushed s : ℕ) → Before (w .st) → 32 * base ≤ room → (base + pushed + 2 ≤ C .depth → Above (w .st)) → After (simulateOn C w base pushed s .st)
+  kept-simulate-on : (w : World) (base pushed s : ℕ) → Before (w .st) → 32 * base ≤ room → (base + pushed + 2 ≤ C .depth →
+      Above (w .st)) → After (simulateOn C w base pushed s .st)
   unfolding simulateOn pushState
   kept-simulate-on w base pushed s k h f =
       kept-need (depthFits C (base + pushed + 2)) OutOfDepth w (pushState w base pushed s) k
@@ -204,10 +218,12 @@ module _ (C : Call) (room scratch u : ℕ) where
   kept-search w Error k h = kept-further w k
 
   -- the simulation, and the mark
-  kept-marked : (w : World) (e : Entry) → Before (w .st) → Above (w .st) → After (marked C w (w .st .height - w .st .popped) e .st)
+  kept-marked : (w : World) (e : Entry) → Before (w .st) → Above (w .st) →
+      After (marked C w (w .st .height - w .st .popped) e .st)
   unfolding marked push
   kept-marked w e k h =
-      kept-grown (w .st) (w .st .height - w .st .popped + 1) 0 1 (w .st .next) Main k (omega arith) (omega arith) (omega arith) (omega arith) tt
+      kept-grown (w .st) (w .st .height - w .st .popped + 1) 0 1 (w .st .next) Main k (omega arith) (omega arith)
+      (omega arith) (omega arith) tt
 
   kept-recover : (w : World) → Before (w .st) → Above (w .st) → After (recover C w .st)
   unfolding recover placeMark
@@ -225,7 +241,8 @@ module _ (C : Call) (room scratch u : ℕ) where
       let n : ℕ = size (C .tables) (suc p) in
       let base : ℕ = w .st .base - (n - w .st .pushed) in
       let pushed : ℕ = w .st .pushed - n in
-      kept-simulate-on w base pushed (target (goto (C .tables) (simTop (w .stack) (w .scratch) base pushed) (left (C .tables) (suc p)))) k
+      kept-simulate-on w base pushed (target (goto (C .tables) (simTop (w .stack) (w .scratch) base pushed) (left (C .tables)
+      (suc p)))) k
       (omega arith) (λ d. h)
 
   kept-simulate : (w : World) (cell : Cell) → Before (w .st) → Above (w .st) → After (simulateLook C w cell .st)
@@ -243,14 +260,17 @@ module _ (C : Call) (room scratch u : ℕ) where
   kept-look w Simulate e k i = kept-simulate w _ k (rw e at i)
   kept-look w Ended e k i = (search needs, i)
 
-pub kept-step : (C : Call) (room scratch u : ℕ) (w : World) → After C room scratch u (w .st) → u + 1 < 2 ^ 32 → After C room scratch (u + 1) (step C w .st)
+pub kept-step : (C : Call) (room scratch u : ℕ) (w : World) → After C room scratch u (w .st) → u + 1 < 2 ^ 32 →
+    After C room scratch (u + 1) (step C w .st)
 unfolding step
 kept-step C room scratch u w k h =
     let b : Before C room scratch (u + 1) (counted (w .st)) = search needs in
     kept-look C room scratch (u + 1) (withSt w (counted (w .st))) (w .st .mode) refl b (k .1)
 
-pub kept-begin : (C : Call) (room scratch : ℕ) → 32 * C .depth ≤ room → 4 * C .depth ≤ scratch → After C room scratch 0 (begin C)
+pub kept-begin : (C : Call) (room scratch : ℕ) → 32 * C .depth ≤ room → 4 * C .depth ≤ scratch →
+    After C room scratch 0 (begin C)
 unfolding begin firstSt
 kept-begin C room scratch h k =
     let f : After C room scratch 0 (firstSt C) = (search needs, tt) in
-    kept-pick C room scratch 0 (depthFits C 1) (arrived C (firstSt C) 0) (ended (firstSt C) OutOfDepth) (λ e. kept-arrived C room scratch 0 (firstSt C) 0 f) (λ e. kept-ended C room scratch 0 0 (firstSt C) OutOfDepth (f .0))
+    kept-pick C room scratch 0 (depthFits C 1) (arrived C (firstSt C) 0) (ended (firstSt C) OutOfDepth)
+    (λ e. kept-arrived C room scratch 0 (firstSt C) 0 f) (λ e. kept-ended C room scratch 0 0 (firstSt C) OutOfDepth (f .0))

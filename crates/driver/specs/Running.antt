@@ -17,11 +17,23 @@ use Rattle.driver.specs.Served.{callOf, reads-served, goes-served, acts-
 
 -- ---- bounds
 
-pub fine-counted : (room depth count : ℕ) (s : St) → Fine room depth count s → s .units + 1 < 2 ^ 32 → Fine room depth count (counted s)
+pub fine-counted : (room depth count : ℕ) (s : St) → Fine room depth count s → s .units + 1 < 2 ^ 32 →
+    Fine room depth count (counted s)
 fine-counted room depth count s f h =
-    record { depth-in = f .depth-in; height-in = f .height-in; kept = f .kept; paid = omega arith; marked = omega arith; few = h; next-in = f .next-in; within = f .within }
+    record {
+      depth-in = f .depth-in;
+      height-in = f .height-in;
+      kept = f .kept;
+      paid = omega arith;
+      marked = omega arith;
+      few =
+          h;
+      next-in = f .next-in;
+      within = f .within;
+    }
 
-pub simulable-counted : (room scratch depth : ℕ) (s : St) → Simulable room scratch depth s → Simulable room scratch depth (counted s)
+pub simulable-counted : (room scratch depth : ℕ) (s : St) → Simulable room scratch depth s →
+    Simulable room scratch depth (counted s)
 simulable-counted room scratch depth s f = record { depth-in = f .depth-in; base-in = f .base-in; pushed-in = f .pushed-in }
 
 -- what a step leaves
@@ -30,10 +42,21 @@ pub record Onward (room scratch : ℕ) (g : Given) (units : ℕ) (r : St) : Type
   pub simulable : Simulable room scratch (g .depth) r
   pub units-are : r .units ≡ units
 
-onward-after : (C : Call) (room scratch u : ℕ) (g : Given) (r : St) → C .depth ≡ g .depth → C .count ≡ g .count → After C room scratch u r → Onward room scratch g u r
+onward-after : (C : Call) (room scratch u : ℕ) (g : Given) (r : St) → C .depth ≡ g .depth → C .count ≡ g .count →
+    After C room scratch u r → Onward room scratch g u r
 onward-after C room scratch u g r d c k =
     record {
-      fine = record { depth-in = omega arith; height-in = k .0 .height-in; kept = k .0 .kept; paid = omega arith; marked = omega arith; few = omega arith; next-in = omega arith; within = rw d at (k .1) };
+      fine = record {
+        depth-in = omega arith;
+        height-in = k .0 .height-in;
+        kept = k .0 .kept;
+        paid = omega arith;
+        marked =
+            omega arith;
+        few = omega arith;
+        next-in = omega arith;
+        within = rw d at (k .1);
+      };
       simulable = record { depth-in = omega arith; base-in = k .0 .base-in; pushed-in = k .0 .pushed-in };
       units-are = k .0 .units-are;
     }
@@ -43,20 +66,43 @@ module _ (g : Given) (actions gotos productions tokens : List ℕ) where
   C = callOf g actions gotos productions tokens
 
   -- what is equal to every served call's step is equal to this one's, which keeps the bounds
-  pub step-onward : (stack scratch nodes children records stack′ scratch′ nodes′ children′ records′ : List ℕ) (s r : St) → Fine (length stack) (g .depth) (g .count) s → Simulable (length stack) (length scratch) (g .depth) s → s .units + 1 < 2 ^ 32 → ((D : Call) → Reads D tokens g → Goes D gotos productions g → Acts D actions g → world stack′ scratch′ nodes′ children′ records′ r ≡ step D (world stack scratch nodes children records s)) → Onward (length stack) (length scratch) g (s .units + 1) r
+  pub step-onward : (stack scratch nodes children records stack′ scratch′ nodes′ children′ records′ : List ℕ) (s r : St) →
+      Fine (length stack) (g .depth) (g .count) s → Simulable (length stack) (length scratch) (g .depth) s →
+      s .units + 1 < 2 ^ 32 → ((D : Call) → Reads D tokens g → Goes D gotos productions g → Acts D actions g →
+      world stack′ scratch′ nodes′ children′ records′ r ≡ step D (world stack scratch nodes children records s)) →
+      Onward (length stack) (length scratch) g (s .units + 1) r
   step-onward stack scratch nodes children records stack′ scratch′ nodes′ children′ records′ s r f m h e =
       let w : World = world stack scratch nodes children records s in
-      let k : Kept C (length stack) (length scratch) 0 (s .units) s = record { depth-in = f .depth-in; simulated-in = m .depth-in; height-in = f .height-in; base-in = m .base-in; pushed-in = m .pushed-in; kept = f .kept; paid = omega arith; marked = omega arith; few = f .few; units-are = refl; next-in = f .next-in } in
-      let q : r ≡ step C w .st = ap (λ (o : World). o .st) (e C (reads-served g actions gotos productions tokens) (goes-served g actions gotos productions tokens) (acts-served g actions gotos productions tokens)) in
-      rw q (onward-after C (length stack) (length scratch) (s .units + 1) g (step C w .st) refl refl (kept-step C (length stack) (length scratch) (s .units) w (k, f .within) h))
+      let k : Kept C (length stack)
+      (length scratch) 0 (s .units) s = record {
+        depth-in = f .depth-in;
+        simulated-in = m .depth-in;
+        height-in = f
+            .height-in;
+        base-in = m .base-in;
+        pushed-in = m .pushed-in;
+        kept = f .kept;
+        paid = omega arith;
+        marked = omega arith;
+        few = f .few;
+        units-are = refl;
+        next-in = f .next-in;
+      } in
+      let q : r ≡ step C w .st = ap (λ (o : World). o .st) (e C (reads-served g actions gotos productions tokens)
+      (goes-served g actions gotos productions tokens) (acts-served g actions gotos productions tokens)) in
+      rw q (onward-after C (length stack) (length scratch)
+      (s .units + 1) g (step C w .st) refl refl (kept-step C (length stack) (length scratch) (s .units) w (k, f .within) h))
 
-  pub begin-onward : (room scratch : ℕ) (r : St) → 32 * g .depth ≤ room → 4 * g .depth ≤ scratch → ((D : Call) → Reads D tokens g → r ≡ begin D) → Onward room scratch g 0 r
+  pub begin-onward : (room scratch : ℕ) (r : St) → 32 * g .depth ≤ room → 4 * g .depth ≤ scratch → ((D : Call) →
+      Reads D tokens g → r ≡ begin D) → Onward room scratch g 0 r
   begin-onward room scratch r h k e =
-      rw (e C (reads-served g actions gotos productions tokens)) (onward-after C room scratch 0 g (begin C) refl refl (kept-begin C room scratch h k))
+      rw (e C (reads-served g actions gotos productions tokens))
+      (onward-after C room scratch 0 g (begin C) refl refl (kept-begin C room scratch h k))
 
 -- ---- a run is its steps
 
-pub run-turn : (C : Call) (n : ℕ) (w w′ v : World) → 0 < n → isEnded (w .st .mode) ≡ false → w′ ≡ step C w → runFrom C n w ≡ v → runFrom C (n - 1) w′ ≡ v
+pub run-turn : (C : Call) (n : ℕ) (w w′ v : World) → 0 < n → isEnded (w .st .mode) ≡ false → w′ ≡ step C w → runFrom C n w ≡
+    v → runFrom C (n - 1) w′ ≡ v
 unfolding runFrom
 run-turn C zero w w′ v h e s q = absurd (omega arith)
 run-turn C (suc n) w w′ v h e s q =
@@ -72,7 +118,8 @@ unfolding runFrom
 run-none C n w e = rw e
 
 -- The invariant of a run: the rooms keep their lengths, the bounds hold, and what is left to run gives the whole.
-pub record Going (g : Given) (actions gotos productions tokens stack₀ scratch₀ nodes₀ children₀ records₀ : List ℕ) (s₀ : St) (budget : ℕ) (stack scratch nodes children records : List ℕ) (s : St) (left : ℕ) : Type 0 where
+pub record Going (g : Given) (actions gotos productions tokens stack₀ scratch₀ nodes₀ children₀ records₀ : List ℕ) (s₀ : St)
+    (budget : ℕ) (stack scratch nodes children records : List ℕ) (s : St) (left : ℕ) : Type 0 where
   pub stack-long : length stack ≡ length stack₀
   pub scratch-long : length scratch ≡ length scratch₀
   pub nodes-long : length nodes ≡ length nodes₀
@@ -81,12 +128,24 @@ pub record Going (g : Given) (actions gotos productions tokens stack₀ scratch�
   pub fine : Fine (length stack) (g .depth) (g .count) s
   pub simulable : Simulable (length stack) (length scratch) (g .depth) s
   pub budget-left : s .units + left < 2 ^ 32
-  pub rest : (C : Call) → Reads C tokens g → Goes C gotos productions g → Acts C actions g → runFrom C left (world stack scratch nodes children records s) ≡ runFrom C budget (world stack₀ scratch₀ nodes₀ children₀ records₀ s₀)
+  pub rest : (C : Call) → Reads C tokens g → Goes C gotos productions g → Acts C actions g →
+      runFrom C left (world stack scratch nodes children records s) ≡
+      runFrom C budget (world stack₀ scratch₀ nodes₀ children₀ records₀ s₀)
 
-module _ (g : Given) (actions gotos productions tokens stack₀ scratch₀ nodes₀ children₀ records₀ : List ℕ) (s₀ : St) (budget : ℕ) (stack scratch nodes children records : List ℕ) (s : St) (left : ℕ) (stack′ scratch′ nodes′ children′ records′ : List ℕ) (r : St) where
-  pub going-on : Going g actions gotos productions tokens stack₀ scratch₀ nodes₀ children₀ records₀ s₀ budget stack scratch nodes children records s left → 0 < left → isEnded (s .mode) ≡ false → length stack′ ≡ length stack → length scratch′ ≡ length scratch → length nodes′ ≡ length nodes → length children′ ≡ length children → length records′ ≡ length records → ((C : Call) → Reads C tokens g → Goes C gotos productions g → Acts C actions g → world stack′ scratch′ nodes′ children′ records′ r ≡ step C (world stack scratch nodes children records s)) → Going g actions gotos productions tokens stack₀ scratch₀ nodes₀ children₀ records₀ s₀ budget stack′ scratch′ nodes′ children′ records′ r (left - 1)
+module _ (g : Given) (actions gotos productions tokens stack₀ scratch₀ nodes₀ children₀ records₀ : List ℕ) (s₀ : St)
+    (budget : ℕ) (stack scratch nodes children records : List ℕ) (s : St) (left : ℕ)
+    (stack′ scratch′ nodes′ children′ records′ : List ℕ) (r : St) where
+  pub going-on : Going g actions gotos productions tokens stack₀ scratch₀ nodes₀ children₀ records₀ s₀ budget stack scratch
+      nodes children records s left → 0 < left → isEnded (s .mode) ≡ false → length stack′ ≡ length stack → length scratch′ ≡
+      length scratch → length nodes′ ≡ length nodes → length children′ ≡ length children → length records′ ≡ length records →
+      ((C : Call) → Reads C tokens g → Goes C gotos productions g → Acts C actions g →
+      world stack′ scratch′ nodes′ children′ records′ r ≡ step C (world stack scratch nodes children records s)) →
+      Going g actions gotos productions tokens stack₀ scratch₀ nodes₀ children₀ records₀ s₀ budget stack′ scratch′ nodes′
+      children′ records′ r (left - 1)
   going-on k h e l₁ l₂ l₃ l₄ l₅ q =
-      let o : Onward (length stack) (length scratch) g (s .units + 1) r = step-onward g actions gotos productions tokens stack scratch nodes children records stack′ scratch′ nodes′ children′ records′ s r (k .fine) (k .simulable) (omega arith) q in
+      let o : Onward (length stack)
+      (length scratch) g (s .units + 1) r = step-onward g actions gotos productions tokens stack scratch nodes children
+      records stack′ scratch′ nodes′ children′ records′ s r (k .fine) (k .simulable) (omega arith) q in
       record {
         stack-long = l₁ ∙ k .stack-long;
         scratch-long = l₂ ∙ k .scratch-long;
@@ -95,6 +154,9 @@ module _ (g : Given) (actions gotos productions tokens stack₀ scratch₀ nodes
         records-long = l₅ ∙ k .records-long;
         fine = rw l₁ (o .fine);
         simulable = rw (l₁, l₂) (o .simulable);
-        budget-left = let u : r .units ≡ s .units + 1 = o .units-are in let b : s .units + left < 2 ^ 32 = k .budget-left in omega arith;
-        rest = λ C m n a. run-turn C left (world stack scratch nodes children records s) (world stack′ scratch′ nodes′ children′ records′ r) (runFrom C budget (world stack₀ scratch₀ nodes₀ children₀ records₀ s₀)) h e (q C m n a) (k .rest C m n a);
+        budget-left = let u : r .units ≡ s .units + 1 = o .units-are in let b : s .units + left < 2 ^ 32 = k .budget-left in
+            omega arith;
+        rest = λ C m n a. run-turn C left (world stack scratch nodes children records s)
+            (world stack′ scratch′ nodes′ children′ records′ r)
+            (runFrom C budget (world stack₀ scratch₀ nodes₀ children₀ records₀ s₀)) h e (q C m n a) (k .rest C m n a);
       }

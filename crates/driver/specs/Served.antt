@@ -20,7 +20,16 @@ sizesOf g =
 abbrev pub callOf : Given → List ℕ → List ℕ → List ℕ → List ℕ → Call
 callOf g actions gotos productions tokens =
     record {
-      tables = record { sizes = sizesOf g; actions = actions; gotos = gotos; productions = productions; rights = []; items = []; sets = [] };
+      tables = record {
+        sizes = sizesOf g;
+        actions = actions;
+        gotos = gotos;
+        productions = productions;
+        rights = [];
+        items =
+            [];
+        sets = [];
+      };
       tokens = tokens;
       count = g .count;
       origin = g .origin;
@@ -53,7 +62,15 @@ module _ (g : Given) (actions gotos productions tokens : List ℕ) where
 
   pub reads-served : Reads C tokens g
   reads-served =
-      record { tokens-are = refl; count-is = refl; origin-is = refl; depth-is = refl; kinds-are = kinds-back; flag-is = flag-back }
+      record {
+        tokens-are = refl;
+        count-is = refl;
+        origin-is = refl;
+        depth-is = refl;
+        kinds-are = kinds-back;
+        flag-is =
+            flag-back;
+      }
 
   pub goes-served : Goes C gotos productions g
   goes-served =

@@ -4,19 +4,26 @@ ghost use mathlib.Core.List.{List};
 ghost use mathlib.Core.Path.{_≡_};
 ghost use Prim.Native.Nat.{ℕ, _+_, _*_, _-_, _/_, _≤_, _<_, _^_, min};
 ghost use lib.ListN.{length};
-ghost use Rattle.model.specs.Model.{Call, firstSt, begin, step, isEnded, runFrom};
+ghost use Rattle.model.specs.Model.{Call, hasToken, formedAt, fail, firstSt, begin, step, isEnded, runFrom};
 ghost use Rattle.moves.specs.Serving.{Reads, Goes, Acts, world};
 ghost use Rattle.moves.specs.Bounds.{Small, Fine, Simulable};
-use looks::column_look;
-use looks::main_look;
-use looks::search_look;
-use looks::simulate_look;
+ghost use Rattle.looks.specs.Deciding.{onAct, Sure};
+use looks::Act;
+use looks::decide;
 use model::Mode;
 use model::St;
 use moves::Given;
 use moves::arrive;
 use moves::counted;
 use moves::ended;
+use moves::fail;
+use moves::further;
+use moves::searching;
+use pushes::reduce;
+use pushes::shift;
+use recovery::recover;
+use recovery::simulate_on;
+use rooms::top_at;
 use rules::Answer;
 use rules::Formed;
 use rules::StateNo;
@@ -67,6 +74,78 @@ pub fn begin(tokens: &[u8], g: Given) -> St
     read_first(tokens, g, first_st(origin))
 }
 
+// "3 unrecognized token: token, expected. 4 unrecognized end: last location, expected."
+fn formed_at(g: Given, stack: &[u8], st: St) -> Formed
+    requires { ⌜ (st .next < 2 ^ 32) × (32 * (st .height) ≤ length (now stack)) ⌝ }
+    ensures { λ r. ⌜ ((C : Call) (tokens scratch nodes children records : List ℕ) → Reads C tokens g → r ≡
+        formedAt (world (now (stack .entry)) scratch nodes children records st) (hasToken C st)) ⌝ }
+{
+    let next = st.next;
+    let last = st.last;
+    let count = g.count;
+    let height = st.height;
+    let top = StateNo(top_at(stack, height));
+    if next < count {
+        return Formed {
+            number: 3,
+            at: next as u32,
+            from: next as u32,
+            top,
+        };
+    }
+    Formed {
+        number: 4,
+        at: last,
+        from: next as u32,
+        top,
+    }
+}
+
+fn fail_now(g: Given, stack: &[u8], st: St) -> St
+    requires { ⌜ (st .next < 2 ^ 32) × (32 * (st .height) ≤ length (now stack)) ⌝ }
+    ensures { λ r. ⌜ ((C : Call) (tokens scratch nodes children records : List ℕ) → Reads C tokens g →
+        world (now (stack .entry)) scratch nodes children records r ≡
+        fail C (world (now (stack .entry)) scratch nodes children records st)
+        (formedAt (world (now (stack .entry)) scratch nodes children records st) (hasToken C st))) ⌝ }
+{
+    fail(g, st, formed_at(g, stack, st))
+}
+
+// What a look decided is done. Each act has one place, so that the whole step is one function of the machine's code.
+fn perform(
+    actions: &[u8],
+    gotos: &[u8],
+    productions: &[u8],
+    tokens: &[u8],
+    g: Given,
+    stack: &mut [u8],
+    scratch: &mut [u8],
+    nodes: &mut [u8],
+    children: &mut [u8],
+    records: &mut [u8],
+    st: St,
+    act: Act,
+) -> St
+    requires { ⌜ Small g × Fine (length (now stack)) (g .depth) (g .count) st × (4 * (g .depth) ≤ length (now scratch)) ×
+        Sure g st act ⌝ }
+    ensures { λ r. ⌜ ((C : Call) → Reads C (now (tokens .entry)) g → Goes C (now (gotos .entry)) (now (productions .entry)) g →
+        Acts C (now (actions .entry)) g → world (now (stack .exit)) (now (scratch .exit)) (now (nodes .exit))
+        (now (children .exit)) (now (records .exit)) r ≡ onAct C (world (now (stack .entry)) (now (scratch .entry))
+        (now (nodes .entry)) (now (children .entry)) (now (records .entry)) st) act) ⌝ }
+{
+    match act {
+        Act::ShiftTo(to) => shift(tokens, g, stack, nodes, st, to),
+        Act::ReduceBy(p) => reduce(gotos, productions, tokens, g, stack, nodes, children, st, p),
+        Act::EndWith(answer) => ended(st, answer),
+        Act::FailNow => fail_now(g, stack, st),
+        Act::SearchTop => searching(st, 0),
+        Act::LookFurther => further(tokens, g, stack, st),
+        Act::SimulateFrom(base, pushed, s) => simulate_on(g, scratch, st, base, pushed, s),
+        Act::Recover => recover(actions, tokens, g, stack, nodes, records, st),
+        Act::Stay => st,
+    }
+}
+
 // "One unit is one look at an action cell": the look is counted, whatever comes of it.
 pub fn step(
     actions: &[u8],
@@ -81,49 +160,40 @@ pub fn step(
     records: &mut [u8],
     st: St,
 ) -> St
-    requires { ⌜ Small g × Fine (length (now stack)) (g .depth) (g .count) st × Simulable (length (now stack)) (length (now scratch)) (g .depth) st × (st .units + 1 < 2 ^ 32) ⌝ }
-    ensures { λ r. ⌜ ((C : Call) → Reads C (now (tokens .entry)) g → Goes C (now (gotos .entry)) (now (productions .entry)) g → Acts C (now (actions .entry)) g → world (now (stack .exit)) (now (scratch .exit)) (now (nodes .exit)) (now (children .exit)) (now (records .exit)) r ≡ step C (world (now (stack .entry)) (now (scratch .entry)) (now (nodes .entry)) (now (children .entry)) (now (records .entry)) st)) ⌝ }
+    requires { ⌜ Small g × Fine (length (now stack)) (g .depth) (g .count) st × Simulable (length (now stack))
+        (length (now scratch)) (g .depth) st × (st .units + 1 < 2 ^ 32) ⌝ }
+    ensures { λ r. ⌜ ((C : Call) → Reads C (now (tokens .entry)) g → Goes C (now (gotos .entry)) (now (productions .entry)) g →
+        Acts C (now (actions .entry)) g → world (now (stack .exit)) (now (scratch .exit)) (now (nodes .exit))
+        (now (children .exit)) (now (records .exit)) r ≡ step C (world (now (stack .entry)) (now (scratch .entry))
+        (now (nodes .entry)) (now (children .entry)) (now (records .entry)) st)) ⌝ }
 {
     let mode = st.mode;
     let s = counted(st);
-    match mode {
-        Mode::Main => main_look(
-            actions,
-            gotos,
-            productions,
-            tokens,
-            g,
-            stack,
-            nodes,
-            children,
-            s,
-        ),
-        Mode::Column => column_look(
-            actions,
-            gotos,
-            productions,
-            tokens,
-            g,
-            stack,
-            nodes,
-            children,
-            s,
-        ),
-        Mode::Search => search_look(actions, tokens, g, stack, scratch, s),
-        Mode::Simulate => simulate_look(
-            actions,
-            gotos,
-            productions,
-            tokens,
-            g,
-            stack,
-            scratch,
-            nodes,
-            records,
-            s,
-        ),
-        Mode::Ended => s,
-    }
+    let act = decide(
+        actions,
+        gotos,
+        productions,
+        tokens,
+        g,
+        stack,
+        scratch,
+        s,
+        mode,
+    );
+    perform(
+        actions,
+        gotos,
+        productions,
+        tokens,
+        g,
+        stack,
+        scratch,
+        nodes,
+        children,
+        records,
+        s,
+        act,
+    )
 }
 
 fn is_ended(mode: Mode) -> bool
@@ -153,8 +223,12 @@ pub fn run(
     st: St,
     budget: u32,
 ) -> St
-    requires { ⌜ Small g × Fine (length (now stack)) (g .depth) (g .count) st × Simulable (length (now stack)) (length (now scratch)) (g .depth) st × (st .units + budget < 2 ^ 32) ⌝ }
-    ensures { λ r. ⌜ ((C : Call) → Reads C (now (tokens .entry)) g → Goes C (now (gotos .entry)) (now (productions .entry)) g → Acts C (now (actions .entry)) g → world (now (stack .exit)) (now (scratch .exit)) (now (nodes .exit)) (now (children .exit)) (now (records .exit)) r ≡ runFrom C budget (world (now (stack .entry)) (now (scratch .entry)) (now (nodes .entry)) (now (children .entry)) (now (records .entry)) st)) ⌝ }
+    requires { ⌜ Small g × Fine (length (now stack)) (g .depth) (g .count) st × Simulable (length (now stack))
+        (length (now scratch)) (g .depth) st × (st .units + budget < 2 ^ 32) ⌝ }
+    ensures { λ r. ⌜ ((C : Call) → Reads C (now (tokens .entry)) g → Goes C (now (gotos .entry)) (now (productions .entry)) g →
+        Acts C (now (actions .entry)) g → world (now (stack .exit)) (now (scratch .exit)) (now (nodes .exit))
+        (now (children .exit)) (now (records .exit)) r ≡ runFrom C budget (world (now (stack .entry)) (now (scratch .entry))
+        (now (nodes .entry)) (now (children .entry)) (now (records .entry)) st)) ⌝ }
 {
     let mut s = st;
     let mut left = budget;
@@ -196,7 +270,10 @@ pub fn drive(
     budget: u32,
 ) -> St
     requires { ⌜ Small g × (32 * (g .depth) ≤ length (now stack)) × (4 * (g .depth) ≤ length (now scratch)) ⌝ }
-    ensures { λ r. ⌜ ((C : Call) → Reads C (now (tokens .entry)) g → Goes C (now (gotos .entry)) (now (productions .entry)) g → Acts C (now (actions .entry)) g → world (now (stack .exit)) (now (scratch .exit)) (now (nodes .exit)) (now (children .exit)) (now (records .exit)) r ≡ runFrom C budget (world (now (stack .entry)) (now (scratch .entry)) (now (nodes .entry)) (now (children .entry)) (now (records .entry)) (begin C))) ⌝ }
+    ensures { λ r. ⌜ ((C : Call) → Reads C (now (tokens .entry)) g → Goes C (now (gotos .entry)) (now (productions .entry)) g →
+        Acts C (now (actions .entry)) g → world (now (stack .exit)) (now (scratch .exit)) (now (nodes .exit))
+        (now (children .exit)) (now (records .exit)) r ≡ runFrom C budget (world (now (stack .entry)) (now (scratch .entry))
+        (now (nodes .entry)) (now (children .entry)) (now (records .entry)) (begin C))) ⌝ }
 {
     let st = begin(tokens, g);
     run(

@@ -19,7 +19,8 @@ module _ (C : Call) (w : World) where
   column-more zero h = absurd (h refl)
   column-more (suc p) h = refl
 
-  pub simulate-more : (p : ℕ) → 0 < p → simulateReduce C w p ≡ simulateOver C w p (w .st .base - (size (C .tables) p - w .st .pushed)) (w .st .pushed - size (C .tables) p)
+  pub simulate-more : (p : ℕ) → 0 < p → simulateReduce C w p ≡
+      simulateOver C w p (w .st .base - (size (C .tables) p - w .st .pushed)) (w .st .pushed - size (C .tables) p)
   unfolding simulateReduce
   simulate-more zero h = absurd (omega arith)
   simulate-more (suc p) h = refl

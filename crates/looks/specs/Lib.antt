@@ -1,2 +1,3 @@
--- The model's cases on a production number, by a test.
+-- What a look decides, as an act of the byte model, and the model's cases on a production number by a test.
+pub mod Deciding
 pub mod Cases

@@ -51,19 +51,23 @@ pub too-deep : {C : Call} {tokens : List ℕ} {g : Given} → Reads C tokens g �
 too-deep {g} m n h = rw (m .depth-is) (lt-leb n (g .depth) h)
 
 -- the rules' readers over the slices
-pub action-is : {C : Call} {actions : List ℕ} {g : Given} → Acts C actions g → (s c : ℕ) → action (C .tables) s c ≡ cellIn actions (g .states) (g .kinds + 2) s c
+pub action-is : {C : Call} {actions : List ℕ} {g : Given} → Acts C actions g → (s c : ℕ) → action (C .tables) s c ≡
+    cellIn actions (g .states) (g .kinds + 2) s c
 unfolding action cellIn
 action-is m s c = rw (← m .actions-are, ← m .states-are, ← m .kinds-are)
 
-pub goto-is : {C : Call} {gotos productions : List ℕ} {g : Given} → Goes C gotos productions g → (s j : ℕ) → goto (C .tables) s j ≡ cellIn gotos (g .states) (g .nonterminals) s j
+pub goto-is : {C : Call} {gotos productions : List ℕ} {g : Given} → Goes C gotos productions g → (s j : ℕ) →
+    goto (C .tables) s j ≡ cellIn gotos (g .states) (g .nonterminals) s j
 unfolding goto cellIn
 goto-is m s j = rw (← m .gotos-are, ← m .states-are, ← m .nonterminals-are)
 
-pub left-is : {C : Call} {gotos productions : List ℕ} {g : Given} → Goes C gotos productions g → (p : ℕ) → left (C .tables) p ≡ word16 productions (4 * p)
+pub left-is : {C : Call} {gotos productions : List ℕ} {g : Given} → Goes C gotos productions g → (p : ℕ) → left (C .tables) p ≡
+    word16 productions (4 * p)
 unfolding left
 left-is m p = rw (m .productions-are)
 
-pub size-is : {C : Call} {gotos productions : List ℕ} {g : Given} → Goes C gotos productions g → (p : ℕ) → size (C .tables) p ≡ word16 productions (4 * p + 2)
+pub size-is : {C : Call} {gotos productions : List ℕ} {g : Given} → Goes C gotos productions g → (p : ℕ) → size (C .tables) p ≡
+    word16 productions (4 * p + 2)
 unfolding size
 size-is m p = rw (m .productions-are)
 

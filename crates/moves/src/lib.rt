@@ -237,7 +237,8 @@ pub fn answer_of(f: Formed) -> Answer
 
 // "Flag 0: an error cell gives 3, or 4 at the end, at once. Recovery, flag 1: form the error".
 pub fn fail(g: Given, st: St, f: Formed) -> St
-    ensures { λ r. ⌜ ((C : Call) (tokens stack scratch nodes children records : List ℕ) → Reads C tokens g → world stack scratch nodes children records r ≡ fail C (world stack scratch nodes children records st) f) ⌝ }
+    ensures { λ r. ⌜ ((C : Call) (tokens stack scratch nodes children records : List ℕ) → Reads C tokens g →
+        world stack scratch nodes children records r ≡ fail C (world stack scratch nodes children records st) f) ⌝ }
 {
     let recovers = g.recovers;
     if recovers {
@@ -249,7 +250,9 @@ pub fn fail(g: Given, st: St, f: Formed) -> St
 // "No state: drop the lookahead, read on, search the same stack. At end of input with no state, answer the original error."
 fn drop_token(tokens: &[u8], g: Given, stack: &[u8], st: St) -> St
     requires { ⌜ Small g × Fine (length (now stack)) (g .depth) (g .count) st ⌝ }
-    ensures { λ r. ⌜ ((C : Call) (scratch nodes children records : List ℕ) → Reads C (now (tokens .entry)) g → world (now (stack .entry)) scratch nodes children records r ≡ dropToken C (world (now (stack .entry)) scratch nodes children records st)) ⌝ }
+    ensures { λ r. ⌜ ((C : Call) (scratch nodes children records : List ℕ) → Reads C (now (tokens .entry)) g →
+        world (now (stack .entry)) scratch nodes children records r ≡
+        dropToken C (world (now (stack .entry)) scratch nodes children records st)) ⌝ }
 {
     let next = st.next;
     let count = g.count;
@@ -264,7 +267,9 @@ fn drop_token(tokens: &[u8], g: Given, stack: &[u8], st: St) -> St
 // "If the error cell is not a shift, look further down."
 pub fn further(tokens: &[u8], g: Given, stack: &[u8], st: St) -> St
     requires { ⌜ Small g × Fine (length (now stack)) (g .depth) (g .count) st ⌝ }
-    ensures { λ r. ⌜ ((C : Call) (scratch nodes children records : List ℕ) → Reads C (now (tokens .entry)) g → world (now (stack .entry)) scratch nodes children records r ≡ further C (world (now (stack .entry)) scratch nodes children records st)) ⌝ }
+    ensures { λ r. ⌜ ((C : Call) (scratch nodes children records : List ℕ) → Reads C (now (tokens .entry)) g →
+        world (now (stack .entry)) scratch nodes children records r ≡
+        further C (world (now (stack .entry)) scratch nodes children records st)) ⌝ }
 {
     let popped = st.popped;
     let height = st.height;

@@ -58,8 +58,11 @@ fn token_entry(tokens: &[u8], st: St, to: StateNo) -> Entry
 }
 
 fn shifted(tokens: &[u8], g: Given, stack: &mut [u8], nodes: &mut [u8], st: St, to: StateNo) -> St
-    requires { ⌜ Small g × Fine (length (now stack)) (g .depth) (g .count) st × (st .next < g .count) × (st .height + 2 ≤ g .depth) × (32 * (st .nodes) + 32 ≤ length (now nodes)) ⌝ }
-    ensures { λ r. ⌜ ((C : Call) (scratch children records : List ℕ) → Reads C (now (tokens .entry)) g → world (now (stack .exit)) scratch (now (nodes .exit)) children records r ≡ shifted C (world (now (stack .entry)) scratch (now (nodes .entry)) children records st) to) ⌝ }
+    requires { ⌜ Small g × Fine (length (now stack)) (g .depth) (g .count) st × (st .next < g .count) ×
+        (st .height + 2 ≤ g .depth) × (32 * (st .nodes) + 32 ≤ length (now nodes)) ⌝ }
+    ensures { λ r. ⌜ ((C : Call) (scratch children records : List ℕ) → Reads C (now (tokens .entry)) g →
+        world (now (stack .exit)) scratch (now (nodes .exit)) children records r ≡
+        shifted C (world (now (stack .entry)) scratch (now (nodes .entry)) children records st) to) ⌝ }
 {
     let height = st.height;
     let node = st.nodes;
@@ -78,7 +81,9 @@ fn shifted(tokens: &[u8], g: Given, stack: &mut [u8], nodes: &mut [u8], st: St, 
 // "20 depth, .., 22 nodes, .. tested in that order: .. before what that look pushes."
 pub fn shift(tokens: &[u8], g: Given, stack: &mut [u8], nodes: &mut [u8], st: St, to: StateNo) -> St
     requires { ⌜ Small g × Fine (length (now stack)) (g .depth) (g .count) st × (st .next < g .count) ⌝ }
-    ensures { λ r. ⌜ ((C : Call) (scratch children records : List ℕ) → Reads C (now (tokens .entry)) g → world (now (stack .exit)) scratch (now (nodes .exit)) children records r ≡ shift C (world (now (stack .entry)) scratch (now (nodes .entry)) children records st) to) ⌝ }
+    ensures { λ r. ⌜ ((C : Call) (scratch children records : List ℕ) → Reads C (now (tokens .entry)) g →
+        world (now (stack .exit)) scratch (now (nodes .exit)) children records r ≡
+        shift C (world (now (stack .entry)) scratch (now (nodes .entry)) children records st) to) ⌝ }
 {
     let height = st.height;
     let node = st.nodes;
@@ -106,7 +111,8 @@ pub fn target(cell: Cell) -> u32
 // "Goto cells, by state and nonterminal": where the left side of a production leads from a state.
 pub fn goto_state(gotos: &[u8], productions: &[u8], g: Given, top: u32, p: ProdNo) -> u32
     requires { ⌜ Small g ⌝ }
-    ensures { λ r. ⌜ ((C : Call) → Goes C (now (gotos .entry)) (now (productions .entry)) g → r ≡ target (goto (C .tables) top (left (C .tables) (p .0)))) ⌝ }
+    ensures { λ r. ⌜ ((C : Call) → Goes C (now (gotos .entry)) (now (productions .entry)) g → r ≡
+        target (goto (C .tables) top (left (C .tables) (p .0)))) ⌝ }
 {
     let states = g.states;
     let nonterminals = g.nonterminals;
@@ -128,7 +134,8 @@ pub fn end_below(origin: u32, stack: &[u8], rest: usize) -> u32
 // "An empty one sits at the lookahead's start, else the top symbol's end, else the start location (our rule)."
 fn empty_spot(tokens: &[u8], g: Given, stack: &[u8], st: St, rest: usize) -> u32
     requires { ⌜ (st .next < 2 ^ 32) × (32 * rest ≤ length (now stack)) ⌝ }
-    ensures { λ r. ⌜ ((C : Call) (scratch nodes children records : List ℕ) → Reads C (now (tokens .entry)) g → r ≡ emptySpot C (world (now (stack .entry)) scratch nodes children records st) rest) ⌝ }
+    ensures { λ r. ⌜ ((C : Call) (scratch nodes children records : List ℕ) → Reads C (now (tokens .entry)) g → r ≡
+        emptySpot C (world (now (stack .entry)) scratch nodes children records st) rest) ⌝ }
 {
     let next = st.next;
     let count = g.count;
@@ -151,7 +158,9 @@ fn empty_production(
     rest: usize,
 ) -> Entry
     requires { ⌜ Small g × Fine (length (now stack)) (g .depth) (g .count) st × (32 * rest ≤ length (now stack)) ⌝ }
-    ensures { λ r. ⌜ ((C : Call) (scratch nodes children records : List ℕ) → Reads C (now (tokens .entry)) g → Goes C (now (gotos .entry)) (now (productions .entry)) g → r ≡ productionEntry C (world (now (stack .entry)) scratch nodes children records st) (p .0) 0 rest) ⌝ }
+    ensures { λ r. ⌜ ((C : Call) (scratch nodes children records : List ℕ) → Reads C (now (tokens .entry)) g →
+        Goes C (now (gotos .entry)) (now (productions .entry)) g → r ≡
+        productionEntry C (world (now (stack .entry)) scratch nodes children records st) (p .0) 0 rest) ⌝ }
 {
     let next = st.next;
     let node = st.nodes;
@@ -181,7 +190,9 @@ fn full_production(
     rest: usize,
 ) -> Entry
     requires { ⌜ Small g × Fine (length (now stack)) (g .depth) (g .count) st × (rest + k ≡ st .height) × (0 < k) ⌝ }
-    ensures { λ r. ⌜ ((C : Call) (scratch nodes children records : List ℕ) → Goes C (now (gotos .entry)) (now (productions .entry)) g → r ≡ productionEntry C (world (now (stack .entry)) scratch nodes children records st) (p .0) k rest) ⌝ }
+    ensures { λ r. ⌜ ((C : Call) (scratch nodes children records : List ℕ) → Goes C (now (gotos .entry))
+        (now (productions .entry)) g → r ≡ productionEntry C (world (now (stack .entry)) scratch nodes children records st)
+        (p .0) k rest) ⌝ }
 {
     let last = st.height - 1;
     let node = st.nodes;
@@ -210,7 +221,9 @@ fn production_entry(
     rest: usize,
 ) -> Entry
     requires { ⌜ Small g × Fine (length (now stack)) (g .depth) (g .count) st × (rest + k ≡ st .height) ⌝ }
-    ensures { λ r. ⌜ ((C : Call) (scratch nodes children records : List ℕ) → Reads C (now (tokens .entry)) g → Goes C (now (gotos .entry)) (now (productions .entry)) g → r ≡ productionEntry C (world (now (stack .entry)) scratch nodes children records st) (p .0) k rest) ⌝ }
+    ensures { λ r. ⌜ ((C : Call) (scratch nodes children records : List ℕ) → Reads C (now (tokens .entry)) g →
+        Goes C (now (gotos .entry)) (now (productions .entry)) g → r ≡
+        productionEntry C (world (now (stack .entry)) scratch nodes children records st) (p .0) k rest) ⌝ }
 {
     if k == 0 {
         return empty_production(gotos, productions, tokens, g, stack, st, p, rest);
@@ -241,8 +254,13 @@ fn reduced(
     k: usize,
     rest: usize,
 ) -> St
-    requires { ⌜ Small g × Fine (length (now stack)) (g .depth) (g .count) st × (rest + k ≡ st .height) × (rest + 2 ≤ g .depth) × (4 * (st .children + k) ≤ length (now children)) × (32 * (st .nodes) + 32 ≤ length (now nodes)) ⌝ }
-    ensures { λ r. ⌜ ((C : Call) (scratch records : List ℕ) → Reads C (now (tokens .entry)) g → Goes C (now (gotos .entry)) (now (productions .entry)) g → world (now (stack .exit)) scratch (now (nodes .exit)) (now (children .exit)) records r ≡ reduced C (world (now (stack .entry)) scratch (now (nodes .entry)) (now (children .entry)) records st) (p .0) k rest) ⌝ }
+    requires { ⌜ Small g × Fine (length (now stack)) (g .depth) (g .count) st × (rest + k ≡ st .height) ×
+        (rest + 2 ≤ g .depth) × (4 * (st .children + k) ≤ length (now children)) ×
+        (32 * (st .nodes) + 32 ≤ length (now nodes)) ⌝ }
+    ensures { λ r. ⌜ ((C : Call) (scratch records : List ℕ) → Reads C (now (tokens .entry)) g → Goes C (now (gotos .entry))
+        (now (productions .entry)) g → world (now (stack .exit)) scratch (now (nodes .exit)) (now (children .exit)) records r ≡
+        reduced C (world (now (stack .entry)) scratch (now (nodes .entry)) (now (children .entry)) records st)
+        (p .0) k rest) ⌝ }
 {
     let at = st.children;
     let node = st.nodes;
@@ -270,7 +288,10 @@ fn reduce_over(
     rest: usize,
 ) -> St
     requires { ⌜ Small g × Fine (length (now stack)) (g .depth) (g .count) st × (rest + k ≡ st .height) ⌝ }
-    ensures { λ r. ⌜ ((C : Call) (scratch records : List ℕ) → Reads C (now (tokens .entry)) g → Goes C (now (gotos .entry)) (now (productions .entry)) g → world (now (stack .exit)) scratch (now (nodes .exit)) (now (children .exit)) records r ≡ reduceOver C (world (now (stack .entry)) scratch (now (nodes .entry)) (now (children .entry)) records st) (p .0) k rest) ⌝ }
+    ensures { λ r. ⌜ ((C : Call) (scratch records : List ℕ) → Reads C (now (tokens .entry)) g → Goes C (now (gotos .entry))
+        (now (productions .entry)) g → world (now (stack .exit)) scratch (now (nodes .exit)) (now (children .exit)) records r ≡
+        reduceOver C (world (now (stack .entry)) scratch (now (nodes .entry)) (now (children .entry)) records st)
+        (p .0) k rest) ⌝ }
 {
     let at = st.children;
     let node = st.nodes;
@@ -321,7 +342,9 @@ pub fn reduce(
     p: ProdNo,
 ) -> St
     requires { ⌜ Small g × Fine (length (now stack)) (g .depth) (g .count) st ⌝ }
-    ensures { λ r. ⌜ ((C : Call) (scratch records : List ℕ) → Reads C (now (tokens .entry)) g → Goes C (now (gotos .entry)) (now (productions .entry)) g → world (now (stack .exit)) scratch (now (nodes .exit)) (now (children .exit)) records r ≡ reduce C (world (now (stack .entry)) scratch (now (nodes .entry)) (now (children .entry)) records st) (p .0)) ⌝ }
+    ensures { λ r. ⌜ ((C : Call) (scratch records : List ℕ) → Reads C (now (tokens .entry)) g → Goes C (now (gotos .entry))
+        (now (productions .entry)) g → world (now (stack .exit)) scratch (now (nodes .exit)) (now (children .exit)) records r ≡
+        reduce C (world (now (stack .entry)) scratch (now (nodes .entry)) (now (children .entry)) records st) (p .0)) ⌝ }
 {
     let height = st.height;
     let k = least(size(productions, p.0 as usize), height);

@@ -11,7 +11,7 @@ ghost use Rattle.words.specs.Words.{pick};
 ghost use Rattle.rules.specs.Tables.{Tables, isError};
 ghost use Rattle.rules.specs.Answers.{onesOf};
 ghost use Rattle.model.specs.Model.{putRecord};
-ghost use Rattle.records.specs.Expected.{Row, expectsIn, wordIn, wordsIn};
+ghost use Rattle.records.specs.Expected.{Row, Bound, expectsIn, wordIn, wordsIn};
 use rooms::put8;
 use rules::Cell;
 use rules::Entry;
@@ -50,15 +50,31 @@ fn weight(set: bool, bit: u64) -> u64
     0
 }
 
+// How many bits of a word are of user kinds: past these no bit is set.
+fn bits_in(kinds: usize, j: usize) -> usize
+    requires { ⌜ j < 8 ⌝ }
+    ensures { λ r. ⌜ Bound kinds j r ⌝ }
+{
+    let from = 32 * j;
+    if kinds <= from {
+        return 0;
+    }
+    if 32 <= kinds - from {
+        return 32;
+    }
+    kinds - from
+}
+
 // "kind k at bit k mod 32 of word k/32". The bit's weight is doubled past the word's last bit, so it is wider than the word.
 pub fn expected_word(actions: &[u8], states: usize, kinds: usize, state: usize, j: usize) -> u32
     requires { ⌜ (states < 2 ^ 17) × (kinds + 2 < 2 ^ 17) × (j < 8) ⌝ }
     ensures { λ r. ⌜ r ≡ wordIn (now (actions .entry)) states kinds state j ⌝ }
 {
+    let end = bits_in(kinds, j);
     let mut word: u64 = 0;
     let mut bit: u64 = 1;
     let mut b: usize = 0;
-    while b < 32 {
+    while b < end {
         word += weight(expects(actions, states, kinds, state, 32 * j + b), bit);
         bit *= 2;
         b += 1;
@@ -108,7 +124,8 @@ pub fn put_record(
     e: Entry,
 )
     requires { ⌜ (states < 2 ^ 17) × (kinds + 2 < 2 ^ 17) × (64 * i + 64 ≤ length (now s)) ⌝ }
-    ensures { λ _. ⌜ ((T : Tables) → Row T (now (actions .entry)) states kinds → now (s .exit) ≡ putRecord T (now (s .entry)) i f e) ⌝ }
+    ensures { λ _. ⌜ ((T : Tables) → Row T (now (actions .entry)) states kinds → now (s .exit) ≡
+        putRecord T (now (s .entry)) i f e) ⌝ }
 {
     let top = f.top;
     let words = expected_words(actions, states, kinds, top.0 as usize);

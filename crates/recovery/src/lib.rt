@@ -41,7 +41,8 @@ use words::put32;
 
 fn push_state(scratch: &mut [u8], st: St, base: usize, pushed: usize, s: u32) -> St
     requires { ⌜ 4 * pushed + 4 ≤ length (now scratch) ⌝ }
-    ensures { λ r. ⌜ ((stack nodes children records : List ℕ) → world stack (now (scratch .exit)) nodes children records r ≡ pushState (world stack (now (scratch .entry)) nodes children records st) base pushed s) ⌝ }
+    ensures { λ r. ⌜ ((stack nodes children records : List ℕ) → world stack (now (scratch .exit)) nodes children records r ≡
+        pushState (world stack (now (scratch .entry)) nodes children records st) base pushed s) ⌝ }
 {
     put32(scratch, 4 * pushed, s);
     simulating(st, base, pushed + 1)
@@ -50,7 +51,9 @@ fn push_state(scratch: &mut [u8], st: St, base: usize, pushed: usize, s: u32) ->
 // "Depth counts states, real or simulated, the first included".
 pub fn simulate_on(g: Given, scratch: &mut [u8], st: St, base: usize, pushed: usize, s: u32) -> St
     requires { ⌜ (4 * (g .depth) ≤ length (now scratch)) × (base + pushed < 2 ^ 63) ⌝ }
-    ensures { λ r. ⌜ ((C : Call) (tokens stack nodes children records : List ℕ) → Reads C tokens g → world stack (now (scratch .exit)) nodes children records r ≡ simulateOn C (world stack (now (scratch .entry)) nodes children records st) base pushed s) ⌝ }
+    ensures { λ r. ⌜ ((C : Call) (tokens stack nodes children records : List ℕ) → Reads C tokens g →
+        world stack (now (scratch .exit)) nodes children records r ≡
+        simulateOn C (world stack (now (scratch .entry)) nodes children records st) base pushed s) ⌝ }
 {
     let depth = g.depth;
     if depth < base + pushed + 2 {
@@ -70,8 +73,11 @@ pub fn simulate_over(
     base: usize,
     pushed: usize,
 ) -> St
-    requires { ⌜ Small g × (4 * (g .depth) ≤ length (now scratch)) × (32 * base ≤ length (now stack)) × (4 * pushed ≤ length (now scratch)) ⌝ }
-    ensures { λ r. ⌜ ((C : Call) (tokens nodes children records : List ℕ) → Reads C tokens g → Goes C (now (gotos .entry)) (now (productions .entry)) g → world (now (stack .entry)) (now (scratch .exit)) nodes children records r ≡ simulateOver C (world (now (stack .entry)) (now (scratch .entry)) nodes children records st) (p .0) base pushed) ⌝ }
+    requires { ⌜ Small g × (4 * (g .depth) ≤ length (now scratch)) × (32 * base ≤ length (now stack)) ×
+        (4 * pushed ≤ length (now scratch)) ⌝ }
+    ensures { λ r. ⌜ ((C : Call) (tokens nodes children records : List ℕ) → Reads C tokens g → Goes C (now (gotos .entry))
+        (now (productions .entry)) g → world (now (stack .entry)) (now (scratch .exit)) nodes children records r ≡
+        simulateOver C (world (now (stack .entry)) (now (scratch .entry)) nodes children records st) (p .0) base pushed) ⌝ }
 {
     let top = sim_top(stack, scratch, base, pushed);
     simulate_on(
@@ -87,7 +93,8 @@ pub fn simulate_over(
 // "else the first dropped token's; else the end of the symbol below; else the start location"
 fn start_unpopped(tokens: &[u8], g: Given, stack: &[u8], st: St, rest: usize) -> u32
     requires { ⌜ (st .popped ≡ 0) × (32 * rest ≤ length (now stack)) ⌝ }
-    ensures { λ r. ⌜ ((C : Call) (scratch nodes children records : List ℕ) → Reads C (now (tokens .entry)) g → r ≡ markStart C (world (now (stack .entry)) scratch nodes children records st) rest) ⌝ }
+    ensures { λ r. ⌜ ((C : Call) (scratch nodes children records : List ℕ) → Reads C (now (tokens .entry)) g → r ≡
+        markStart C (world (now (stack .entry)) scratch nodes children records st) rest) ⌝ }
 {
     let formed = st.formed;
     let from = formed.from as usize;
@@ -102,7 +109,8 @@ fn start_unpopped(tokens: &[u8], g: Given, stack: &[u8], st: St, rest: usize) ->
 // "Mark start: the first popped symbol's start"
 fn mark_start(tokens: &[u8], g: Given, stack: &[u8], st: St, rest: usize) -> u32
     requires { ⌜ Fine (length (now stack)) (g .depth) (g .count) st × (rest + st .popped ≡ st .height) ⌝ }
-    ensures { λ r. ⌜ ((C : Call) (scratch nodes children records : List ℕ) → Reads C (now (tokens .entry)) g → r ≡ markStart C (world (now (stack .entry)) scratch nodes children records st) rest) ⌝ }
+    ensures { λ r. ⌜ ((C : Call) (scratch nodes children records : List ℕ) → Reads C (now (tokens .entry)) g → r ≡
+        markStart C (world (now (stack .entry)) scratch nodes children records st) rest) ⌝ }
 {
     let popped = st.popped;
     if popped == 0 {
@@ -114,7 +122,8 @@ fn mark_start(tokens: &[u8], g: Given, stack: &[u8], st: St, rest: usize) -> u32
 // "else the lookahead's start; else the mark's start"
 fn end_unpopped(tokens: &[u8], g: Given, st: St, start: u32) -> u32
     requires { ⌜ st .next < 2 ^ 32 ⌝ }
-    ensures { λ r. ⌜ ((C : Call) → Reads C (now (tokens .entry)) g → r ≡ pick (hasToken C st) (tokenStart C (st .next)) start) ⌝ }
+    ensures { λ r. ⌜ ((C : Call) → Reads C (now (tokens .entry)) g → r ≡ pick (hasToken C st)
+        (tokenStart C (st .next)) start) ⌝ }
 {
     let next = st.next;
     let count = g.count;
@@ -127,7 +136,9 @@ fn end_unpopped(tokens: &[u8], g: Given, st: St, start: u32) -> u32
 // "Mark end: the last dropped token's end; else, if anything popped, the last symbol's end"
 fn mark_end(tokens: &[u8], g: Given, stack: &[u8], st: St, start: u32) -> u32
     requires { ⌜ Small g × Fine (length (now stack)) (g .depth) (g .count) st × (st .popped ≤ st .height) ⌝ }
-    ensures { λ r. ⌜ ((C : Call) (scratch nodes children records : List ℕ) (rest : ℕ) → Reads C (now (tokens .entry)) g → start ≡ markStart C (world (now (stack .entry)) scratch nodes children records st) rest → r ≡ markEnd C (world (now (stack .entry)) scratch nodes children records st) rest) ⌝ }
+    ensures { λ r. ⌜ ((C : Call) (scratch nodes children records : List ℕ) (rest : ℕ) → Reads C (now (tokens .entry)) g →
+        start ≡ markStart C (world (now (stack .entry)) scratch nodes children records st) rest → r ≡
+        markEnd C (world (now (stack .entry)) scratch nodes children records st) rest) ⌝ }
 {
     let formed = st.formed;
     let from = formed.from as usize;
@@ -159,7 +170,8 @@ fn mark_first(stack: &[u8], st: St, rest: usize) -> u32
 // The error cell of the state below which so many symbols lie.
 pub fn error_cell(actions: &[u8], g: Given, stack: &[u8], height: usize) -> Cell
     requires { ⌜ Small g × (32 * height ≤ length (now stack)) ⌝ }
-    ensures { λ r. ⌜ ((C : Call) → Acts C (now (actions .entry)) g → r ≡ action (C .tables) (topAt (now (stack .entry)) height) (errorColumn (C .tables))) ⌝ }
+    ensures { λ r. ⌜ ((C : Call) → Acts C (now (actions .entry)) g → r ≡ action (C .tables)
+        (topAt (now (stack .entry)) height) (errorColumn (C .tables))) ⌝ }
 {
     let states = g.states;
     let kinds = g.kinds;
@@ -170,14 +182,17 @@ pub fn error_cell(actions: &[u8], g: Given, stack: &[u8], height: usize) -> Cell
 // "The repeated look that places the mark is free."
 fn error_state(actions: &[u8], g: Given, stack: &[u8], rest: usize) -> u32
     requires { ⌜ Small g × (32 * rest ≤ length (now stack)) ⌝ }
-    ensures { λ r. ⌜ ((C : Call) → Acts C (now (actions .entry)) g → r ≡ target (action (C .tables) (topAt (now (stack .entry)) rest) (errorColumn (C .tables)))) ⌝ }
+    ensures { λ r. ⌜ ((C : Call) → Acts C (now (actions .entry)) g → r ≡ target (action (C .tables)
+        (topAt (now (stack .entry)) rest) (errorColumn (C .tables)))) ⌝ }
 {
     target(error_cell(actions, g, stack, rest))
 }
 
 fn mark_entry(actions: &[u8], tokens: &[u8], g: Given, stack: &[u8], st: St, rest: usize) -> Entry
     requires { ⌜ Small g × Fine (length (now stack)) (g .depth) (g .count) st × (rest + st .popped ≡ st .height) ⌝ }
-    ensures { λ r. ⌜ ((C : Call) (scratch nodes children records : List ℕ) → Reads C (now (tokens .entry)) g → Acts C (now (actions .entry)) g → r ≡ markEntry C (world (now (stack .entry)) scratch nodes children records st) rest) ⌝ }
+    ensures { λ r. ⌜ ((C : Call) (scratch nodes children records : List ℕ) → Reads C (now (tokens .entry)) g →
+        Acts C (now (actions .entry)) g → r ≡
+        markEntry C (world (now (stack .entry)) scratch nodes children records st) rest) ⌝ }
 {
     let next = st.next;
     let node = st.nodes;
@@ -206,8 +221,11 @@ fn marked(
     rest: usize,
     e: Entry,
 ) -> St
-    requires { ⌜ Small g × Fine (length (now stack)) (g .depth) (g .count) st × (32 * rest + 32 ≤ length (now stack)) × (32 * (st .nodes) + 32 ≤ length (now nodes)) × (64 * (st .records) + 64 ≤ length (now records)) ⌝ }
-    ensures { λ r. ⌜ ((C : Call) (scratch children : List ℕ) → Acts C (now (actions .entry)) g → world (now (stack .exit)) scratch (now (nodes .exit)) children (now (records .exit)) r ≡ marked C (world (now (stack .entry)) scratch (now (nodes .entry)) children (now (records .entry)) st) rest e) ⌝ }
+    requires { ⌜ Small g × Fine (length (now stack)) (g .depth) (g .count) st × (32 * rest + 32 ≤ length (now stack)) ×
+        (32 * (st .nodes) + 32 ≤ length (now nodes)) × (64 * (st .records) + 64 ≤ length (now records)) ⌝ }
+    ensures { λ r. ⌜ ((C : Call) (scratch children : List ℕ) → Acts C (now (actions .entry)) g →
+        world (now (stack .exit)) scratch (now (nodes .exit)) children (now (records .exit)) r ≡
+        marked C (world (now (stack .entry)) scratch (now (nodes .entry)) children (now (records .entry)) st) rest e) ⌝ }
 {
     let states = g.states;
     let kinds = g.kinds;
@@ -232,8 +250,14 @@ fn mark(
     st: St,
     rest: usize,
 ) -> St
-    requires { ⌜ Small g × Fine (length (now stack)) (g .depth) (g .count) st × (rest + st .popped ≡ st .height) × (32 * rest + 32 ≤ length (now stack)) × (32 * (st .nodes) + 32 ≤ length (now nodes)) × (64 * (st .records) + 64 ≤ length (now records)) ⌝ }
-    ensures { λ r. ⌜ ((C : Call) (scratch children : List ℕ) → Reads C (now (tokens .entry)) g → Acts C (now (actions .entry)) g → world (now (stack .exit)) scratch (now (nodes .exit)) children (now (records .exit)) r ≡ marked C (world (now (stack .entry)) scratch (now (nodes .entry)) children (now (records .entry)) st) rest (markEntry C (world (now (stack .entry)) scratch (now (nodes .entry)) children (now (records .entry)) st) rest)) ⌝ }
+    requires { ⌜ Small g × Fine (length (now stack)) (g .depth) (g .count) st × (rest + st .popped ≡ st .height) ×
+        (32 * rest + 32 ≤ length (now stack)) × (32 * (st .nodes) + 32 ≤ length (now nodes)) ×
+        (64 * (st .records) + 64 ≤ length (now records)) ⌝ }
+    ensures { λ r. ⌜ ((C : Call) (scratch children : List ℕ) → Reads C (now (tokens .entry)) g →
+        Acts C (now (actions .entry)) g →
+        world (now (stack .exit)) scratch (now (nodes .exit)) children (now (records .exit)) r ≡
+        marked C (world (now (stack .entry)) scratch (now (nodes .entry)) children (now (records .entry)) st) rest (markEntry C
+        (world (now (stack .entry)) scratch (now (nodes .entry)) children (now (records .entry)) st) rest)) ⌝ }
 {
     let e = mark_entry(actions, tokens, g, stack, st, rest);
     marked(actions, g, stack, nodes, records, st, rest, e)
@@ -249,8 +273,12 @@ pub fn recover(
     records: &mut [u8],
     st: St,
 ) -> St
-    requires { ⌜ Small g × Fine (length (now stack)) (g .depth) (g .count) st × (st .popped ≤ st .height) × (st .height + 2 ≤ g .depth + st .popped) ⌝ }
-    ensures { λ r. ⌜ ((C : Call) (scratch children : List ℕ) → Reads C (now (tokens .entry)) g → Acts C (now (actions .entry)) g → world (now (stack .exit)) scratch (now (nodes .exit)) children (now (records .exit)) r ≡ recover C (world (now (stack .entry)) scratch (now (nodes .entry)) children (now (records .entry)) st)) ⌝ }
+    requires { ⌜ Small g × Fine (length (now stack)) (g .depth) (g .count) st × (st .popped ≤ st .height) ×
+        (st .height + 2 ≤ g .depth + st .popped) ⌝ }
+    ensures { λ r. ⌜ ((C : Call) (scratch children : List ℕ) → Reads C (now (tokens .entry)) g →
+        Acts C (now (actions .entry)) g →
+        world (now (stack .exit)) scratch (now (nodes .exit)) children (now (records .exit)) r ≡
+        recover C (world (now (stack .entry)) scratch (now (nodes .entry)) children (now (records .entry)) st)) ⌝ }
 {
     let node = st.nodes;
     let count = st.records;

@@ -4,7 +4,7 @@ use borrow.Author.Needs.{needs}
 use mathlib.Core.Path.{sym, _∙_}
 use Rattle.rules.specs.Check.{check}
 use Rattle.checker.specs.Chain.{refuses, goes-on}
-use Rattle.items.specs.Ranges.{none-bad}
+use Rattle.tables.specs.Places.{good-at}
 use Rattle.tables.specs.Fit.{fit}
 use Rattle.checker.proofs.check.Statement.{statement}
 use Rattle.checker.proofs.check.Tie as tie
@@ -20,7 +20,7 @@ enum-told c = search needs
 
 check-cells-requires : tie.Need-check-cells-requires
 check-cells-requires c κs =
-    fit _ 0 (none-bad _ 0 1 (sym (c .before .before .scan10 .ensures) ∙ c .enum-told .given .1) 0 (search needs) (search needs))
+    fit _ 0 (good-at _ 0 1 (sym (c .before .before .scan10 .ensures) ∙ c .enum-told .given .1) 0 (search needs) (search needs))
 
 returns : tie.Need-returns
 unfolding check

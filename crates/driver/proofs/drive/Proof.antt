@@ -13,11 +13,23 @@ begin-requires : tie.Need-begin-requires
 begin-requires c κs = search needs
 
 run-requires : tie.Need-run-requires
-run-requires c κs = let p = c .before .before .before .before .before .before .before .before .before .before .before .before .before .before .before .pre in
-    let x = c .before .before .before .before .before .before .before .before .before .before .before .before .before .before .before .args in
-    let b = c .before .before .before .before .before .before .before .before .before .before .before .before .before .before .before .fits .budget in
-    let o : Onward (length (x .stack .now)) (length (x .scratch .now)) (x .g) 0 (c .before .before .before .before .before .begin .result) = begin-onward (x .g) (x .actions .now) (x .gotos .now) (x .productions .now) (x .tokens .now) (length (x .stack .now)) (length (x .scratch .now)) (c .before .before .before .before .before .begin .result) (p .1) (p .2) (c .before .before .before .before .before .begin .ensures) in
-    (p .0, o .fine, o .simulable, let u : c .before .before .before .before .before .begin .result .units ≡ 0 = o .units-are in omega arith)
+run-requires c κs = let p = c .before .before .before .before .before .before .before .before .before .before .before .before
+    .before .before .before .pre in
+    let x = c .before .before .before .before .before .before .before .before .before .before .before .before .before .before
+    .before .args in
+    let b = c .before .before .before .before .before .before .before .before .before .before .before .before .before .before
+    .before .fits .budget in
+    let o : Onward (length (x .stack .now)) (length (x .scratch .now))
+    (x .g) 0 (c .before .before .before .before .before .begin .result) = begin-onward (x .g) (x .actions .now)
+    (x .gotos .now) (x .productions .now) (x .tokens .now) (length (x .stack .now)) (length (x .scratch .now))
+    (c .before .before .before .before .before .begin .result) (p .1) (p .2)
+    (c .before .before .before .before .before .begin .ensures) in (
+      p .0,
+      o .fine,
+      o .simulable,
+      let u : c .before .before .before .before .before .begin .result .units ≡ 0 = o .units-are in
+          omega arith,
+    )
 
 same-length : tie.Need-same-length
 same-length c = search needs
@@ -35,7 +47,9 @@ same-length-5 : tie.Need-same-length-5
 same-length-5 c = search needs
 
 returns : tie.Need-returns
-returns c = λ C m n a. rw (← c .before .before .before .before .before .before .before .before .before .before .before .before .before .before .before .before .begin .ensures C m) (c .before .before .before .before .before .before .before .before .before .before .run .ensures C m n a)
+returns c = λ C m n a. rw (← c .before .before .before .before .before .before .before .before .before .before .before .before
+    .before .before .before .before .begin .ensures C m)
+    (c .before .before .before .before .before .before .before .before .before .before .run .ensures C m n a)
 
 pub drive-spec : {M : Type 1} → statement M
 drive-spec =

@@ -2,42 +2,23 @@
 -- Assumes nothing.
 use borrow.Author.Needs.{needs}
 use Rattle.looks.specs.Cases.{main-more}
+use Rattle.looks.specs.Deciding.{onAct}
 use Rattle.looks.proofs.main_reduce.Statement.{statement}
 use Rattle.looks.proofs.main_reduce.Tie as tie
 
 main-accept-requires : tie.Need-main-accept-requires
 main-accept-requires c κs = search needs
 
-same-length : tie.Need-same-length
-same-length c = search needs
-
 returns : tie.Need-returns
-returns c = λ C scratch records m n. rw (c .before .before .if1 .taken) (c .main-accept .ensures C (c .before .before .before .before .before .before .before .before .before .args .tokens .now) scratch (c .before .before .before .before .before .before .before .before .before .args .nodes .now) (c .before .before .before .before .before .before .before .before .before .args .children .now) records m)
-
-reduce-requires : tie.Need-reduce-requires
-reduce-requires c κs = search needs
-
-same-length-2 : tie.Need-same-length-2
-same-length-2 c = search needs
-
-same-length-3 : tie.Need-same-length-3
-same-length-3 c = search needs
-
-same-length-4 : tie.Need-same-length-4
-same-length-4 c = search needs
+returns c = (
+  c .main-accept .ensures .0,
+  λ C tokens scratch nodes children records m. rw (c .before .if1 .taken)
+      (c .main-accept .ensures .1 C tokens scratch nodes children records m),
+)
 
 returns-2 : tie.Need-returns-2
-returns-2 c = λ C scratch records m n. rw (main-more _ _ _ _ (c .before .before .before .before .before .before .before .before .before .before .if1 .left)) (c .before .before .before .before .before .before .reduce .ensures C scratch records m n)
+unfolding onAct
+returns-2 c = (tt, λ C tokens scratch nodes children records m. main-more _ _ _ _ (c .if1 .left))
 
 pub main-reduce-spec : {M : Type 1} → statement M
-main-reduce-spec =
-    tie.close
-    (tie.spec
-    main-accept-requires
-    same-length
-    returns
-    reduce-requires
-    same-length-2
-    same-length-3
-    same-length-4
-    returns-2)
+main-reduce-spec = tie.close (tie.spec main-accept-requires returns returns-2)

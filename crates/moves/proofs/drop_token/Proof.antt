@@ -14,11 +14,17 @@ top-at-requires : tie.Need-top-at-requires
 top-at-requires c κs = search needs
 
 arrive-requires : tie.Need-arrive-requires
-arrive-requires c κs = let p = c .before .before .before .before .before .before .pre in rw (c .before .dropped .ensures) (omega arith)
+arrive-requires c κs = let p = c .before .before .before .before .before .before .pre in rw (c .before .dropped .ensures)
+    (omega arith)
 
 returns : tie.Need-returns
 unfolding dropToken
-returns c = λ C scratch nodes children records m. rw (has-token m _ (c .before .before .before .if1 .taken), ← c .before .before .dropped .ensures, ← c .before .top-at .ensures, c .arrive .ensures C m)
+returns c = λ C scratch nodes children records m. rw (
+  has-token m _ (c .before .before .before .if1 .taken),
+  ← c .before .before .dropped .ensures,
+  ← c .before .top-at .ensures,
+  c .arrive .ensures C m,
+)
 
 answer-of-requires : tie.Need-answer-of-requires
 answer-of-requires c κs = search needs
@@ -28,7 +34,11 @@ ended-requires c κs = search needs
 
 returns-2 : tie.Need-returns-2
 unfolding dropToken
-returns-2 c = λ C scratch nodes children records m. rw (no-token m _ (c .before .before .if1 .left), c .ended .ensures, c .before .answer-of .ensures)
+returns-2 c = λ C scratch nodes children records m. rw (
+  no-token m _ (c .before .before .if1 .left),
+  c .ended .ensures,
+  c .before .answer-of .ensures,
+)
 
 pub drop-token-spec : {M : Type 1} → statement M
 drop-token-spec =

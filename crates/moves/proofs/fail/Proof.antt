@@ -20,7 +20,12 @@ ended-requires c κs = search needs
 
 returns-2 : tie.Need-returns-2
 unfolding fail
-returns-2 c = λ C tokens stack scratch nodes children records m. rw (m .flag-is, c .before .before .if1 .left, c .ended .ensures, c .before .answer-of .ensures)
+returns-2 c = λ C tokens stack scratch nodes children records m. rw (
+  m .flag-is,
+  c .before .before .if1 .left,
+  c .ended .ensures,
+  c .before .answer-of .ensures,
+)
 
 pub fail-spec : {M : Type 1} → statement M
 fail-spec =

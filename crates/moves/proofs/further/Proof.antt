@@ -21,7 +21,8 @@ drop-token-requires c κs = search needs
 
 returns-2 : tie.Need-returns-2
 unfolding further
-returns-2 c = λ C scratch nodes children records m. rw (le-ltb _ _ (c .before .if1 .left)) (c .drop-token .ensures C scratch nodes children records m)
+returns-2 c = λ C scratch nodes children records m. rw (le-ltb _ _ (c .before .if1 .left))
+    (c .drop-token .ensures C scratch nodes children records m)
 
 pub further-spec : {M : Type 1} → statement M
 further-spec =

@@ -20,7 +20,8 @@ ended-requires c κs = search needs
 
 returns : tie.Need-returns
 unfolding judged
-returns c = λ C m. rw (m .tokens-are, ← c .before .before .token-kind .ensures, eq-eqb _ _ (c .before .if1 .taken)) (c .ended .ensures)
+returns c = λ C m. rw (m .tokens-are, ← c .before .before .token-kind .ensures, eq-eqb _ _ (c .before .if1 .taken))
+    (c .ended .ensures)
 
 token-end-requires : tie.Need-token-end-requires
 token-end-requires c κs = search needs
@@ -30,14 +31,27 @@ read-to-requires c κs = search needs
 
 returns-2 : tie.Need-returns-2
 unfolding judged
-returns-2 c = λ C m. rw (m .tokens-are, m .kinds-are, ← c .before .before .before .before .token-kind .ensures, ne-eqb _ _ (c .before .before .before .if1 .left), lt-ltb _ _ (c .before .before .if2 .taken), ← c .before .token-end .ensures) (c .read-to .ensures)
+returns-2 c = λ C m. rw (
+  m .tokens-are,
+  m .kinds-are,
+  ← c .before .before .before .before .token-kind .ensures,
+  ne-eqb _ _ (c .before .before .before .if1 .left),
+  lt-ltb _ _ (c .before .before .if2 .taken),
+  ← c .before .token-end .ensures,
+) (c .read-to .ensures)
 
 unknown-requires : tie.Need-unknown-requires
 unknown-requires c κs = search needs
 
 returns-3 : tie.Need-returns-3
 unfolding judged
-returns-3 c = λ C m. rw (m .tokens-are, m .kinds-are, ← c .before .before .before .token-kind .ensures, ne-eqb _ _ (c .before .before .if1 .left), le-ltb _ _ (c .before .if2 .left)) (c .unknown .ensures)
+returns-3 c = λ C m. rw (
+  m .tokens-are,
+  m .kinds-are,
+  ← c .before .before .before .token-kind .ensures,
+  ne-eqb _ _ (c .before .before .if1 .left),
+  le-ltb _ _ (c .before .if2 .left),
+) (c .unknown .ensures)
 
 pub judge-spec : {M : Type 1} → statement M
 judge-spec =

@@ -25,7 +25,12 @@ cast-t16 c = search needs
 
 returns : tie.Need-returns
 unfolding productionEntry
-returns c = λ C scratch nodes children records m n. rw (← c .before .before .empty-spot .ensures C scratch nodes children records m, ← c .before .top-at .ensures, ← c .goto-state .ensures C n)
+returns c = λ C scratch nodes children records m n. rw (
+  ← c .before .before .empty-spot .ensures C scratch nodes children
+      records m,
+  ← c .before .top-at .ensures,
+  ← c .goto-state .ensures C n,
+)
 
 pub empty-production-spec : {M : Type 1} → statement M
 empty-production-spec =

@@ -34,7 +34,16 @@ cast-t17 c = search needs
 returns : tie.Need-returns
 unfolding productionEntry
 returns c = let p = c .before .before .before .before .before .before .before .before .before .before .pre in
-    λ C scratch nodes children records n. rw (ne-eqb (c .before .before .before .before .before .before .before .before .before .before .args .k) 0 (λ e. omega arith), ← c .before .before .before .before .before .top-at .ensures, ← c .before .before .before .before .goto-state .ensures C n, ← c .before .before .before .start-at .ensures, ← c .before .before .end-at .ensures, ← c .before .first-at .ensures, ← c .after-at .ensures)
+    λ C scratch nodes children records n. rw (
+      ne-eqb (c .before .before .before .before .before .before .before .before .before
+          .before .args .k) 0 (λ e. omega arith),
+      ← c .before .before .before .before .before .top-at .ensures,
+      ← c .before .before .before .before .goto-state .ensures C n,
+      ← c .before .before .before .start-at .ensures,
+      ← c .before .before .end-at .ensures,
+      ← c .before .first-at .ensures,
+      ← c .after-at .ensures,
+    )
 
 pub full-production-spec : {M : Type 1} → statement M
 full-production-spec =

@@ -19,7 +19,8 @@ target-requires : tie.Need-target-requires
 target-requires c κs = search needs
 
 returns : tie.Need-returns
-returns c = λ C m. rw (goto-is m, left-is m, ← c .before .before .left .ensures, ← c .before .cell-in .ensures) (c .target .ensures)
+returns c = λ C m. rw (goto-is m, left-is m, ← c .before .before .left .ensures, ← c .before .cell-in .ensures)
+    (c .target .ensures)
 
 pub goto-state-spec : {M : Type 1} → statement M
 goto-state-spec =

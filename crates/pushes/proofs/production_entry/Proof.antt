@@ -8,7 +8,8 @@ empty-production-requires : tie.Need-empty-production-requires
 empty-production-requires c κs = search needs
 
 returns : tie.Need-returns
-returns c = λ C scratch nodes children records m n. rw (c .before .if1 .taken) (c .empty-production .ensures C scratch nodes children records m n)
+returns c = λ C scratch nodes children records m n. rw (c .before .if1 .taken)
+    (c .empty-production .ensures C scratch nodes children records m n)
 
 full-production-requires : tie.Need-full-production-requires
 full-production-requires c κs = search needs

@@ -32,7 +32,12 @@ same-length-3 c = search needs
 
 returns : tie.Need-returns
 unfolding reduce
-returns c = λ C scratch records m n. rw (size-is n, ← c .before .before .before .before .before .before .before .before .before .before .before .size .ensures, ← c .before .before .before .before .before .before .before .before .before .before .least .ensures .0) (c .before .before .before .before .before .before .reduce-over .ensures C scratch records m n)
+returns c = λ C scratch records m n. rw (
+  size-is n,
+  ← c .before .before .before .before .before .before .before .before .before .before .before .size .ensures,
+  ← c .before .before .before .before .before .before .before .before .before .before .least .ensures .0,
+)
+    (c .before .before .before .before .before .before .reduce-over .ensures C scratch records m n)
 
 pub reduce-spec : {M : Type 1} → statement M
 reduce-spec =

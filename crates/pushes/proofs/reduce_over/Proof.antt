@@ -26,7 +26,11 @@ ended-requires-2 c κs = search needs
 
 returns-2 : tie.Need-returns-2
 unfolding reduceOver
-returns-2 c = λ C scratch records m n. rw (depth-fits m _ (c .before .before .if1 .left), lt-leb _ _ (c .before .if2 .taken), c .ended2 .ensures)
+returns-2 c = λ C scratch records m n. rw (
+  depth-fits m _ (c .before .before .if1 .left),
+  lt-leb _ _ (c .before .if2 .taken),
+  c .ended2 .ensures,
+)
 
 add-if3 : tie.Need-add-if3
 add-if3 c = search needs
@@ -36,10 +40,16 @@ ended-requires-3 c κs = search needs
 
 returns-3 : tie.Need-returns-3
 unfolding reduceOver
-returns-3 c = λ C scratch records m n. rw (depth-fits m _ (c .before .before .before .if1 .left), le-leb _ _ (c .before .before .if2 .left), lt-leb _ _ (c .before .if3 .taken), c .ended3 .ensures)
+returns-3 c = λ C scratch records m n. rw (
+  depth-fits m _ (c .before .before .before .if1 .left),
+  le-leb _ _ (c .before .before .if2 .left),
+  lt-leb _ _ (c .before .if3 .taken),
+  c .ended3 .ensures,
+)
 
 reduced-requires : tie.Need-reduced-requires
-reduced-requires c κs = let p = c .before .before .before .before .before .before .before .before .before .before .before .before .pre in (p .0, p .1, p .2, omega arith, omega arith, omega arith)
+reduced-requires c κs = let p = c .before .before .before .before .before .before .before .before .before .before .before
+    .before .pre in (p .0, p .1, p .2, omega arith, omega arith, omega arith)
 
 same-length : tie.Need-same-length
 same-length c = search needs
@@ -52,7 +62,13 @@ same-length-3 c = search needs
 
 returns-4 : tie.Need-returns-4
 unfolding reduceOver
-returns-4 c = λ C scratch records m n. rw (depth-fits m _ (c .before .before .before .before .before .before .before .before .before .before .before .before .if1 .left), le-leb _ _ (c .before .before .before .before .before .before .before .before .before .before .before .if2 .left), le-leb _ _ (c .before .before .before .before .before .before .before .before .before .before .if3 .left)) (c .before .before .before .before .before .before .reduced .ensures C scratch records m n)
+returns-4 c = λ C scratch records m n. rw (
+  depth-fits m _ (c .before .before .before .before .before .before .before .before
+      .before .before .before .before .if1 .left),
+  le-leb _ _ (c .before .before .before .before .before .before .before .before .before .before .before .if2 .left),
+  le-leb _ _ (c .before .before .before .before .before .before .before .before .before .before .if3 .left),
+)
+    (c .before .before .before .before .before .before .reduced .ensures C scratch records m n)
 
 pub reduce-over-spec : {M : Type 1} → statement M
 reduce-over-spec =

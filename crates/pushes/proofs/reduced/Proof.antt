@@ -28,10 +28,12 @@ put-node-requires : tie.Need-put-node-requires
 put-node-requires c κs = search needs
 
 add-grown : tie.Need-add-grown
-add-grown c = let p = c .before .before .before .before .before .before .before .before .before .before .before .before .before .before .before .before .before .before .before .before .before .before .pre in omega arith
+add-grown c = let p = c .before .before .before .before .before .before .before .before .before .before .before .before .before
+    .before .before .before .before .before .before .before .before .before .pre in omega arith
 
 grown-requires : tie.Need-grown-requires
-grown-requires c κs = let p = c .before .before .before .before .before .before .before .before .before .before .before .before .before .before .before .before .before .before .before .before .before .before .pre in omega arith
+grown-requires c κs = let p = c .before .before .before .before .before .before .before .before .before .before .before .before
+    .before .before .before .before .before .before .before .before .before .before .pre in omega arith
 
 same-length : tie.Need-same-length
 same-length c = search needs
@@ -44,7 +46,18 @@ same-length-3 c = search needs
 
 returns : tie.Need-returns
 unfolding reduced push
-returns c = λ C scratch records m n. rw (c .before .before .before .before .before .before .before .before .put-entry .ensures, c .before .before .before .before .before .before .before .before .before .before .before .before .copy-nodes .ensures, c .before .before .before .put-node .ensures, c .before .before .before .before .child-of .ensures, c .grown .ensures, c .before .before .before .before .before .before .before .before .before .before .before .before .before .before .before .production-entry .ensures C scratch (c .before .before .before .before .before .before .before .before .before .before .before .before .before .before .before .before .before .before .before .before .before .before .before .args .nodes .now) (c .before .before .before .before .before .before .before .before .before .before .before .before .before .before .before .before .before .before .before .before .before .before .before .args .children .now) records m n)
+returns c = λ C scratch records m n. rw (
+  c .before .before .before .before .before .before .before .before .put-entry .ensures,
+  c .before .before .before .before .before .before .before .before .before .before .before .before .copy-nodes .ensures,
+  c .before .before .before .put-node .ensures,
+  c .before .before .before .before .child-of .ensures,
+  c .grown .ensures,
+  c .before .before .before .before .before .before .before .before .before .before .before .before .before .before .before
+      .production-entry .ensures C scratch (c .before .before .before .before .before .before .before .before .before .before
+      .before .before .before .before .before .before .before .before .before .before .before .before .before .args .nodes .now)
+      (c .before .before .before .before .before .before .before .before .before .before .before .before .before .before .before
+      .before .before .before .before .before .before .before .before .args .children .now) records m n,
+)
 
 pub reduced-spec : {M : Type 1} → statement M
 reduced-spec =

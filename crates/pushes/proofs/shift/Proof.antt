@@ -25,7 +25,11 @@ ended-requires-2 c κs = search needs
 
 returns-2 : tie.Need-returns-2
 unfolding shift
-returns-2 c = λ C scratch children records m. rw (depth-fits m _ (c .before .before .if1 .left), lt-leb _ _ (c .before .if2 .taken), c .ended2 .ensures)
+returns-2 c = λ C scratch children records m. rw (
+  depth-fits m _ (c .before .before .if1 .left),
+  lt-leb _ _ (c .before .if2 .taken),
+  c .ended2 .ensures,
+)
 
 shifted-requires : tie.Need-shifted-requires
 shifted-requires c κs = search needs
@@ -38,7 +42,12 @@ same-length-2 c = search needs
 
 returns-3 : tie.Need-returns-3
 unfolding shift
-returns-3 c = λ C scratch children records m. rw (depth-fits m _ (c .before .before .before .before .before .before .before .before .if1 .left), le-leb _ _ (c .before .before .before .before .before .before .before .if2 .left)) (c .before .before .before .before .shifted .ensures C scratch children records m)
+returns-3 c = λ C scratch children records m. rw (
+  depth-fits m _ (c .before .before .before .before .before .before .before
+      .before .if1 .left),
+  le-leb _ _ (c .before .before .before .before .before .before .before .if2 .left),
+)
+    (c .before .before .before .before .shifted .ensures C scratch children records m)
 
 pub shift-spec : {M : Type 1} → statement M
 shift-spec =

@@ -25,7 +25,8 @@ grown-requires : tie.Need-grown-requires
 grown-requires c κs = search needs
 
 arrive-requires : tie.Need-arrive-requires
-arrive-requires c κs = let p = c .before .before .before .before .before .before .before .before .before .before .before .before .before .pre in rw (c .grown .ensures) (omega arith)
+arrive-requires c κs = let p = c .before .before .before .before .before .before .before .before .before .before .before
+    .before .before .pre in rw (c .grown .ensures) (omega arith)
 
 same-length : tie.Need-same-length
 same-length c = search needs
@@ -35,7 +36,15 @@ same-length-2 c = search needs
 
 returns : tie.Need-returns
 unfolding shifted push
-returns c = λ C scratch children records m. rw (c .before .before .before .before .before .before .before .before .put-entry .ensures, c .before .before .before .before .put-node .ensures, c .arrive .ensures C m, c .before .grown .ensures, c .before .before .before .before .before .before .before .before .before .before .token-entry .ensures C (c .before .before .before .before .before .before .before .before .before .before .before .before .before .before .args .g) m)
+returns c = λ C scratch children records m. rw (
+  c .before .before .before .before .before .before .before .before .put-entry
+      .ensures,
+  c .before .before .before .before .put-node .ensures,
+  c .arrive .ensures C m,
+  c .before .grown .ensures,
+  c .before .before .before .before .before .before .before .before .before .before .token-entry .ensures C (c .before
+      .before .before .before .before .before .before .before .before .before .before .before .before .before .args .g) m,
+)
 
 pub shifted-spec : {M : Type 1} → statement M
 shifted-spec =

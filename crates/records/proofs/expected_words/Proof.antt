@@ -31,7 +31,16 @@ expected-word-requires-8 c κs = search needs
 
 returns : tie.Need-returns
 unfolding wordsIn
-returns c = rw (← c .before .before .before .before .before .before .before .expected-word .ensures, ← c .before .before .before .before .before .before .expected-word2 .ensures, ← c .before .before .before .before .before .expected-word3 .ensures, ← c .before .before .before .before .expected-word4 .ensures, ← c .before .before .before .expected-word5 .ensures, ← c .before .before .expected-word6 .ensures, ← c .before .expected-word7 .ensures, ← c .expected-word8 .ensures)
+returns c = rw (
+  ← c .before .before .before .before .before .before .before .expected-word .ensures,
+  ← c .before .before .before .before .before .before .expected-word2 .ensures,
+  ← c .before .before .before .before .before .expected-word3 .ensures,
+  ← c .before .before .before .before .expected-word4 .ensures,
+  ← c .before .before .before .expected-word5 .ensures,
+  ← c .before .before .expected-word6 .ensures,
+  ← c .before .expected-word7 .ensures,
+  ← c .expected-word8 .ensures,
+)
 
 pub expected-words-spec : {M : Type 1} → statement M
 expected-words-spec =

@@ -84,7 +84,14 @@ same-length c = search needs
 
 returns : tie.Need-returns
 unfolding putRecord wordsIn
-returns c = λ T m. rw (c .before .before .put82 .ensures, c .before .before .before .before .before .before .put8 .ensures, c .before .before .before .before .before .before .before .before .ones-of .ensures, c .before .before .before .before .before .before .before .before .before .expected-words .ensures, words-in m) (simp (word-in m))
+returns c = λ T m. rw (
+  c .before .before .put82 .ensures,
+  c .before .before .before .before .before .before .put8 .ensures,
+  c .before .before .before .before .before .before .before .before .ones-of .ensures,
+  c .before .before .before .before .before .before .before .before .before .expected-words .ensures,
+  words-in m,
+)
+    (simp (word-in m))
 
 pub put-record-spec : {M : Type 1} → statement M
 put-record-spec =

@@ -21,7 +21,11 @@ same-length-3 : tie.Need-same-length-3
 same-length-3 c = search needs
 
 returns : tie.Need-returns
-returns c = λ C scratch children m n. rw (← c .before .before .before .before .before .before .before .before .before .before .mark-entry .ensures C scratch (c .before .before .before .before .before .before .before .before .before .before .before .before .before .before .before .before .before .args .nodes .now) children (c .before .before .before .before .before .before .before .before .before .before .before .before .before .before .before .before .before .args .records .now) m n) (c .before .before .before .before .before .before .marked .ensures C scratch children n)
+returns c = λ C scratch children m n. rw (← c .before .before .before .before .before .before .before .before .before .before
+    .mark-entry .ensures C scratch (c .before .before .before .before .before .before .before .before .before .before .before
+    .before .before .before .before .before .before .args .nodes .now) children (c .before .before .before .before .before
+    .before .before .before .before .before .before .before .before .before .before .before .before .args .records .now) m n)
+    (c .before .before .before .before .before .before .marked .ensures C scratch children n)
 
 pub mark-spec : {M : Type 1} → statement M
 mark-spec =

@@ -17,14 +17,19 @@ token-end-requires c κs = search needs
 
 returns : tie.Need-returns
 unfolding markEnd hasDropped
-returns c = λ C scratch nodes children records rest m e. rw (lt-ltb _ _ (c .before .if1 .taken), m .tokens-are) (c .token-end .ensures)
+returns c = λ C scratch nodes children records rest m e. rw (lt-ltb _ _ (c .before .if1 .taken), m .tokens-are)
+    (c .token-end .ensures)
 
 end-unpopped-requires : tie.Need-end-unpopped-requires
 end-unpopped-requires c κs = search needs
 
 returns-2 : tie.Need-returns-2
 unfolding markEnd hasDropped
-returns-2 c = λ C scratch nodes children records rest m e. rw (le-ltb _ _ (c .before .before .if1 .left), eq-eqb _ _ (c .before .if2 .taken), ← e) (c .end-unpopped .ensures C m)
+returns-2 c = λ C scratch nodes children records rest m e. rw (
+  le-ltb _ _ (c .before .before .if1 .left),
+  eq-eqb _ _ (c .before .if2 .taken),
+  ← e,
+) (c .end-unpopped .ensures C m)
 
 sub-end-at : tie.Need-sub-end-at
 sub-end-at c = search needs
@@ -34,7 +39,10 @@ end-at-requires c κs = search needs
 
 returns-3 : tie.Need-returns-3
 unfolding markEnd hasDropped
-returns-3 c = λ C scratch nodes children records rest m e. rw (le-ltb _ _ (c .before .before .if1 .left), ne-eqb _ _ (c .before .if2 .left)) (c .end-at .ensures)
+returns-3 c = λ C scratch nodes children records rest m e. rw (
+  le-ltb _ _ (c .before .before .if1 .left),
+  ne-eqb _ _ (c .before .if2 .left),
+) (c .end-at .ensures)
 
 pub mark-end-spec : {M : Type 1} → statement M
 mark-end-spec =

@@ -28,7 +28,14 @@ cast-t16 c = search needs
 
 returns : tie.Need-returns
 unfolding markEntry
-returns c = λ C scratch nodes children records m n. rw (c .before .mark-end .ensures C scratch nodes children records (c .before .before .before .before .before .before .before .args .rest) m (c .before .before .before .mark-start .ensures C scratch nodes children records m), c .before .before .before .mark-start .ensures C scratch nodes children records m, c .mark-first .ensures, c .before .before .error-state .ensures C n)
+returns c = λ C scratch nodes children records m n. rw (
+  c .before .mark-end .ensures C scratch nodes children records (c
+      .before .before .before .before .before .before .before .args .rest) m (c .before .before .before .mark-start .ensures C
+      scratch nodes children records m),
+  c .before .before .before .mark-start .ensures C scratch nodes children records m,
+  c .mark-first .ensures,
+  c .before .before .error-state .ensures C n,
+)
 
 pub mark-entry-spec : {M : Type 1} → statement M
 mark-entry-spec =

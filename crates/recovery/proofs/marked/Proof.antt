@@ -31,7 +31,13 @@ same-length-3 c = search needs
 
 returns : tie.Need-returns
 unfolding marked push
-returns c = λ C scratch children n. rw (c .before .before .before .before .before .before .before .put-entry .ensures, c .before .before .before .put-node .ensures, c .before .before .before .before .before .before .before .before .before .before .before .put-record .ensures (C .tables) (record { actions-are = n .actions-are; states-are = n .states-are; kinds-are = n .kinds-are }), c .grown .ensures)
+returns c = λ C scratch children n. rw (
+  c .before .before .before .before .before .before .before .put-entry .ensures,
+  c .before .before .before .put-node .ensures,
+  c .before .before .before .before .before .before .before .before .before .before .before .put-record .ensures (C .tables)
+      (record { actions-are = n .actions-are; states-are = n .states-are; kinds-are = n .kinds-are }),
+  c .grown .ensures,
+)
 
 pub marked-spec : {M : Type 1} → statement M
 marked-spec =

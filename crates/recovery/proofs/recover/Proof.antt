@@ -27,7 +27,11 @@ ended-requires-2 c κs = search needs
 
 returns-2 : tie.Need-returns-2
 unfolding recover placeMark
-returns-2 c = λ C scratch children m n. rw (le-leb _ _ (c .before .before .if1 .left), lt-leb _ _ (c .before .if2 .taken), c .ended2 .ensures)
+returns-2 c = λ C scratch children m n. rw (
+  le-leb _ _ (c .before .before .if1 .left),
+  lt-leb _ _ (c .before .if2 .taken),
+  c .ended2 .ensures,
+)
 
 mark-requires : tie.Need-mark-requires
 mark-requires c κs = search needs
@@ -43,7 +47,12 @@ same-length-3 c = search needs
 
 returns-3 : tie.Need-returns-3
 unfolding recover placeMark
-returns-3 c = λ C scratch children m n. rw (le-leb _ _ (c .before .before .before .before .before .before .before .before .before .before .before .if1 .left), le-leb _ _ (c .before .before .before .before .before .before .before .before .before .before .if2 .left)) (c .before .before .before .before .before .before .mark .ensures C scratch children m n)
+returns-3 c = λ C scratch children m n. rw (
+  le-leb _ _ (c .before .before .before .before .before .before .before .before
+      .before .before .before .if1 .left),
+  le-leb _ _ (c .before .before .before .before .before .before .before .before .before .before .if2 .left),
+)
+    (c .before .before .before .before .before .before .mark .ensures C scratch children m n)
 
 pub recover-spec : {M : Type 1} → statement M
 recover-spec =

@@ -27,7 +27,8 @@ same-length c = search needs
 
 returns-2 : tie.Need-returns-2
 unfolding simulateOn
-returns-2 c = λ C tokens stack nodes children records m. rw (depth-fits m _ (c .before .before .before .before .if1 .left)) (c .before .before .push-state .ensures stack nodes children records)
+returns-2 c = λ C tokens stack nodes children records m. rw (depth-fits m _ (c .before .before .before .before .if1 .left))
+    (c .before .before .push-state .ensures stack nodes children records)
 
 pub simulate-on-spec : {M : Type 1} → statement M
 simulate-on-spec =

@@ -19,7 +19,12 @@ same-length c = search needs
 
 returns : tie.Need-returns
 unfolding simulateOver
-returns c = λ C tokens nodes children records m n. rw (← c .before .before .before .before .before .sim-top .ensures, ← c .before .before .before .goto-state .ensures C n) (c .before .before .simulate-on .ensures C tokens (c .before .before .before .before .before .before .before .before .before .before .before .args .stack .now) nodes children records m)
+returns c = λ C tokens nodes children records m n. rw (
+  ← c .before .before .before .before .before .sim-top .ensures,
+  ← c .before .before .before .goto-state .ensures C n,
+)
+    (c .before .before .simulate-on .ensures C tokens (c .before .before .before .before .before .before .before .before
+    .before .before .before .args .stack .now) nodes children records m)
 
 pub simulate-over-spec : {M : Type 1} → statement M
 simulate-over-spec =

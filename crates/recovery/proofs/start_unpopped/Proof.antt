@@ -14,14 +14,21 @@ token-start-requires c κs = search needs
 
 returns : tie.Need-returns
 unfolding markStart hasDropped
-returns c = λ C scratch nodes children records m. rw (c .before .before .before .before .before .before .pre .0, lt-ltb _ _ (c .before .if1 .taken), m .tokens-are) (c .token-start .ensures)
+returns c = λ C scratch nodes children records m. rw (
+  c .before .before .before .before .before .before .pre .0,
+  lt-ltb _ _ (c .before .if1 .taken),
+  m .tokens-are,
+) (c .token-start .ensures)
 
 end-below-requires : tie.Need-end-below-requires
 end-below-requires c κs = search needs
 
 returns-2 : tie.Need-returns-2
 unfolding markStart hasDropped
-returns-2 c = λ C scratch nodes children records m. rw (c .before .before .before .before .before .before .pre .0, le-ltb _ _ (c .before .if1 .left)) (c .end-below .ensures C (m .origin-is))
+returns-2 c = λ C scratch nodes children records m. rw (
+  c .before .before .before .before .before .before .pre .0,
+  le-ltb _ _ (c .before .if1 .left),
+) (c .end-below .ensures C (m .origin-is))
 
 pub start-unpopped-spec : {M : Type 1} → statement M
 start-unpopped-spec =

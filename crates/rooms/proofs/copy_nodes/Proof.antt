@@ -11,7 +11,8 @@ use Rattle.rooms.proofs.copy_nodes.Statement.{statement}
 use Rattle.rooms.proofs.copy_nodes.Tie as tie
 
 abbrev Inv-loop : tie.InvT-loop
-Inv-loop children₀ at stack from n i₀ children i = (i ≤ n) × (children ≡ copyNodes i children₀ at stack from) × (length children ≡ length children₀)
+Inv-loop children₀ at stack from n i₀ children i = (i ≤ n) × (children ≡ copyNodes i children₀ at stack from) ×
+    (length children ≡ length children₀)
 
 abbrev μ-loop : tie.MeasureT-loop
 μ-loop children₀ at stack from n i₀ children i = n - i
@@ -33,7 +34,8 @@ node-at-requires : tie.Need-node-at-requires Inv-loop μ-loop
 node-at-requires c κs = let p = c .before .before .before .before .before .pre in omega arith
 
 put32-requires : tie.Need-put32-requires Inv-loop μ-loop
-put32-requires c κs = let p = c .before .before .before .before .before .before .pre in let l = c .before .before .before .loop .inv .2 in omega arith
+put32-requires c κs = let p = c .before .before .before .before .before .before .pre in
+    let l = c .before .before .before .loop .inv .2 in omega arith
 
 add-i : tie.Need-add-i Inv-loop μ-loop
 add-i c = omega arith
@@ -49,7 +51,8 @@ same-length : tie.Need-same-length Inv-loop μ-loop
 same-length c = search needs
 
 returns : tie.Need-returns Inv-loop μ-loop
-returns c = let e : c .before .loop .i ≡ c .before .before .before .before .args .n = omega arith in rw (← e) (c .before .loop .inv .1)
+returns c = let e : c .before .loop .i ≡ c .before .before .before .before .args .n = omega arith in rw (← e)
+    (c .before .loop .inv .1)
 
 pub copy-nodes-spec : {M : Type 1} → statement M
 copy-nodes-spec =

@@ -1,10 +1,10 @@
--- `looks::formed_at` is the error of this moment: of the lookahead, or of the end.
+-- `driver::formed_at` is the error of this moment: of the lookahead, or of the end.
 -- Assumes nothing.
 use borrow.Author.Needs.{needs}
 use Rattle.model.specs.Model.{formedAt}
 use Rattle.moves.specs.Serving.{has-token, no-token}
-use Rattle.looks.proofs.formed_at.Statement.{statement}
-use Rattle.looks.proofs.formed_at.Tie as tie
+use Rattle.driver.proofs.formed_at.Statement.{statement}
+use Rattle.driver.proofs.formed_at.Tie as tie
 
 top-at-requires : tie.Need-top-at-requires
 top-at-requires c κs = search needs
