@@ -1,18 +1,17 @@
 -- Every step keeps the bounds that make the code safe. `spare` is 1 between the count of a look and what the look pushes, so that
 -- each node and each record is paid for by a unit of its own.
 use mathlib.Core.Bool.{Bool, true, false}
-use mathlib.Core.List.{List}
 use mathlib.Core.Path.{_≡_, refl}
 use Prim.Native.Nat.{ℕ, zero, suc, _+_, _*_, _-_, _≤_, _<_, _^_, min}
 use native.Mathlib.Nat.{min-le-right}
 use native.Mathlib.Omega.{arith}
 use borrow.Author.Needs.{needs}
-use borrow.Author.Tests.{leb-true, ltb-true, ltb-false}
-use lib.Dec.{leb, ltb, eqb}
+use borrow.Author.Tests.{leb-true, ltb-true}
+use lib.Dec.{ltb, eqb}
 use Rattle.words.specs.Words.{pick}
 use Rattle.words.specs.Laws.{pick-case}
 use Rattle.rules.specs.declared.Answer.{Answer}
-use Rattle.rules.specs.declared.Answer.the-variants.{TokenizerError, UnrecognizedToken, OutOfDepth, OutOfChildren, OutOfNodes, OutOfRecords, ExtraToken, Accepted, AcceptedEarly}
+use Rattle.rules.specs.declared.Answer.the-variants.{TokenizerError, UnrecognizedToken, OutOfDepth, OutOfChildren, OutOfNodes, OutOfRecords}
 use Rattle.rules.specs.declared.Cell.{Cell}
 use Rattle.rules.specs.declared.Cell.the-variants.{Shift, Reduce, Error}
 use Rattle.rules.specs.declared.Entry.{Entry}
@@ -24,7 +23,7 @@ use Rattle.model.specs.declared.Mode.{Mode}
 use Rattle.model.specs.declared.Mode.the-variants.{Main, Column, Search, Simulate, Ended}
 use Rattle.model.specs.declared.St.{St}
 use Rattle.model.specs.Bytes.{topAt, simTop}
-use Rattle.model.specs.Model.{Call, World, counted, ended, readTo, searching, dropped, simulating, grown, stop, need, withSt, hasToken, tokenKind, tokenEnd, depthFits, nodesFit, childrenFit, recordsFit, judged, arrived, push, shifted, shift, reduced, reduceOver, reduce, mainReduce, fail, failing, formedAt, mainLook, columnReduce, columnLook, dropToken, further, pushState, simulateOn, searchLook, marked, markEntry, placeMark, recover, simulateOver, simulateReduce, simulateLook, look, step, firstSt, begin}
+use Rattle.model.specs.Model.{Call, World, counted, ended, readTo, searching, dropped, simulating, grown, need, withSt, hasToken, tokenKind, tokenEnd, depthFits, nodesFit, childrenFit, recordsFit, judged, arrived, push, shifted, shift, reduced, reduceOver, reduce, mainReduce, fail, failing, mainLook, columnReduce, columnLook, dropToken, further, pushState, simulateOn, searchLook, marked, markEntry, placeMark, recover, simulateOver, simulateReduce, simulateLook, look, step, firstSt, begin}
 use Rattle.moves.specs.Bounds.{Within}
 
 pub record Kept (C : Call) (room scratch spare u : ℕ) (s : St) : Type 0 where

@@ -1,17 +1,15 @@
 -- What `step` and `run` of the code need to know of a run: its bounds before and after a step, and that a run is its steps.
-use mathlib.Core.Bool.{Bool, true, false, not}
+use mathlib.Core.Bool.{true, false}
 use mathlib.Core.List.{List}
 use mathlib.Core.Path.{_≡_, refl, ap, _∙_}
 use Prim.Native.Nat.{ℕ, zero, suc, _+_, _*_, _-_, _≤_, _<_, _^_}
-use native.Mathlib.Numerals.{sub-one}
 use native.Mathlib.Omega.{arith}
-use borrow.Author.Needs.{needs}
 use lib.ListN.{length}
 use Rattle.model.specs.declared.St.{St}
 use Rattle.model.specs.Model.{Call, World, counted, step, isEnded, runFrom, begin}
 use Rattle.moves.specs.declared.Given.{Given}
 use Rattle.moves.specs.Serving.{Reads, Goes, Acts, world}
-use Rattle.moves.specs.Bounds.{Small, Fine, Simulable}
+use Rattle.moves.specs.Bounds.{Fine, Simulable}
 use Rattle.driver.specs.Kept.{Kept, After, kept-step, kept-begin}
 use Rattle.driver.specs.Served.{callOf, reads-served, goes-served, acts-served}
 

@@ -2,15 +2,14 @@
 use mathlib.Core.Bool.{Bool, true, false}
 use mathlib.Core.List.{List, [], _∷_}
 use mathlib.Core.Path.{_≡_, refl}
-use Prim.Native.Nat.{ℕ, _+_, _*_, _/_, _%_, _<_, _^_}
+use Prim.Native.Nat.{ℕ, _+_, _*_, _/_, _%_}
 use native.Mathlib.Omega.{arith}
 use lib.Dec.{eqb}
 use Rattle.words.specs.Words.{pick, word16, get16}
-use Rattle.rules.specs.Tables.{Tables, states, kinds, nonterminals, flag}
+use Rattle.rules.specs.Tables.{states, kinds, nonterminals, flag}
 use Rattle.model.specs.Model.{Call}
 use Rattle.moves.specs.declared.Given.{Given}
 use Rattle.moves.specs.Serving.{Reads, Goes, Acts}
-use Rattle.moves.specs.Bounds.{Small}
 
 abbrev pub sizesOf : Given → List ℕ
 sizesOf g =

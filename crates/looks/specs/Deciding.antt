@@ -1,6 +1,5 @@
 -- An act of the code is an act of the byte model; and what a decision promises, so that the act is safe.
-use mathlib.Core.List.{List}
-use Prim.Native.Nat.{ℕ, _+_, _≤_, _<_, _^_}
+use Prim.Native.Nat.{_+_, _<_, _^_}
 use Rattle.model.specs.declared.Mode.the-variants.{Simulate}
 use Rattle.model.specs.declared.St.{St}
 use Rattle.model.specs.Model.{Call, World, hasToken, stop, withSt, searching, shift, reduce, fail, formedAt, further, simulateOn, recover}

@@ -9,7 +9,7 @@ ghost use Rattle.words.specs.Words.{pick};
 ghost use Rattle.rules.specs.declared.Cell.the-variants.{Shift};
 ghost use Rattle.rules.specs.Tables.{action};
 ghost use Rattle.model.specs.declared.Mode.the-variants.{Main, Column, Search, Simulate};
-ghost use Rattle.model.specs.Bytes.{topAt, nodeAt, simTop};
+ghost use Rattle.model.specs.Bytes.{nodeAt};
 ghost use Rattle.model.specs.Model.{Call, hasToken, lookColumn, mainLook, mainReduce, columnReduce, simulateReduce, look};
 ghost use Rattle.moves.specs.Serving.{Reads, Goes, Acts, world};
 ghost use Rattle.moves.specs.Bounds.{Small, Fine, Simulable, Within};

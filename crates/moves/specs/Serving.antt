@@ -2,13 +2,13 @@
 -- that they serve, so that it says nothing of the slices that a run does not read (right sides, items, sets).
 use mathlib.Core.Bool.{true, false}
 use mathlib.Core.List.{List}
-use mathlib.Core.Path.{_≡_, refl}
+use mathlib.Core.Path.{_≡_}
 use Prim.Native.Nat.{ℕ, _+_, _*_, _<_, _≤_}
 use lib.Dec.{eqb, ltb, leb}
 use borrow.Author.Tests.{lt-ltb, le-ltb, le-leb, lt-leb}
 use Rattle.words.specs.Words.{word16, word32}
 use Rattle.rules.specs.declared.Answer.the-variants.{UnrecognizedToken}
-use Rattle.rules.specs.Tables.{Tables, states, kinds, nonterminals, flag, action, goto, left, size}
+use Rattle.rules.specs.Tables.{states, kinds, nonterminals, flag, action, goto, left, size}
 use Rattle.tables.specs.Readers.{cellIn}
 use Rattle.model.specs.declared.St.{St}
 use Rattle.model.specs.Model.{Call, World, ended, readTo}

@@ -2,15 +2,14 @@
 // Each function is the definition of the same name of the byte model. None writes to a room.
 ghost use mathlib.Core.List.{List};
 ghost use mathlib.Core.Path.{_≡_};
-ghost use Prim.Native.Nat.{ℕ, _+_, _*_, _-_, _≤_, _<_, _^_};
+ghost use Prim.Native.Nat.{ℕ, _+_, _-_, _<_, _^_};
 ghost use lib.ListN.{length};
 ghost use Rattle.rules.specs.Driving.{answerOf};
-ghost use Rattle.model.specs.Model.{Call, counted, ended, readTo, failing, searching, dropped, simulating, grown, judged, arrived, fail, dropToken, further, endBelow};
+ghost use Rattle.model.specs.Model.{Call, counted, ended, readTo, failing, searching, dropped, simulating, grown, judged, arrived, fail, dropToken, further};
 ghost use Rattle.moves.specs.Serving.{Reads, world, unknownAt};
 ghost use Rattle.moves.specs.Bounds.{Small, Fine};
 use model::Mode;
 use model::St;
-use rooms::end_at;
 use rooms::token_end;
 use rooms::token_kind;
 use rooms::top_at;

@@ -7,7 +7,6 @@ ghost use lib.Dec.{eqb};
 ghost use lib.ListN.{length};
 ghost use Rattle.words.specs.Words.{pick};
 ghost use Rattle.rules.specs.Tables.{target, goto, left};
-ghost use Rattle.model.specs.Bytes.{topAt};
 ghost use Rattle.model.specs.Model.{Call, tokenEntry, shifted, shift, endBelow, emptySpot, productionEntry, reduced, reduceOver, reduce};
 ghost use Rattle.moves.specs.Serving.{Reads, Goes, world};
 ghost use Rattle.moves.specs.Bounds.{Small, Fine};

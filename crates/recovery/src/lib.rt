@@ -8,8 +8,8 @@ ghost use lib.ListN.{length};
 ghost use Rattle.words.specs.Words.{pick};
 ghost use Rattle.rules.specs.Tables.{target, action, errorColumn};
 ghost use Rattle.model.specs.Bytes.{topAt, firstAt};
-ghost use Rattle.model.specs.Model.{Call, pushState, simulateOn, simulateOver, markStart, markEnd, markEntry, marked, recover, hasToken, tokenStart};
-ghost use Rattle.moves.specs.Serving.{Reads, Goes, Acts, world};
+ghost use Rattle.model.specs.Model.{Call, pushState, simulateOn, markStart, markEnd, markEntry, marked, recover, hasToken, tokenStart};
+ghost use Rattle.moves.specs.Serving.{Reads, Acts, world};
 ghost use Rattle.moves.specs.Bounds.{Small, Fine};
 use model::Mode;
 use model::St;
@@ -18,14 +18,12 @@ use moves::ended;
 use moves::grown;
 use moves::simulating;
 use pushes::end_below;
-use pushes::goto_state;
 use pushes::target;
 use records::put_record;
 use rooms::end_at;
 use rooms::first_at;
 use rooms::put_entry;
 use rooms::put_node;
-use rooms::sim_top;
 use rooms::start_at;
 use rooms::token_end;
 use rooms::token_start;
@@ -33,7 +31,6 @@ use rooms::top_at;
 use rules::Answer;
 use rules::Cell;
 use rules::Entry;
-use rules::ProdNo;
 use rules::StateNo;
 use rules::What;
 use tables::cell_in;
@@ -60,34 +57,6 @@ pub fn simulate_on(g: Given, scratch: &mut [u8], st: St, base: usize, pushed: us
         return ended(st, Answer::OutOfDepth);
     }
     push_state(scratch, st, base, pushed, s)
-}
-
-pub fn simulate_over(
-    gotos: &[u8],
-    productions: &[u8],
-    g: Given,
-    stack: &[u8],
-    scratch: &mut [u8],
-    st: St,
-    p: ProdNo,
-    base: usize,
-    pushed: usize,
-) -> St
-    requires { ⌜ Small g × (4 * (g .depth) ≤ length (now scratch)) × (32 * base ≤ length (now stack)) ×
-        (4 * pushed ≤ length (now scratch)) ⌝ }
-    ensures { λ r. ⌜ ((C : Call) (tokens nodes children records : List ℕ) → Reads C tokens g → Goes C (now (gotos .entry))
-        (now (productions .entry)) g → world (now (stack .entry)) (now (scratch .exit)) nodes children records r ≡
-        simulateOver C (world (now (stack .entry)) (now (scratch .entry)) nodes children records st) (p .0) base pushed) ⌝ }
-{
-    let top = sim_top(stack, scratch, base, pushed);
-    simulate_on(
-        g,
-        scratch,
-        st,
-        base,
-        pushed,
-        goto_state(gotos, productions, g, top, p),
-    )
 }
 
 // "else the first dropped token's; else the end of the symbol below; else the start location"
