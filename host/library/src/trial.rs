@@ -130,7 +130,8 @@ const PASSES: CallResult = CallResult {
     value: 0,
 };
 
-fn result_of_refusal(Refusal { number, place }: Refusal) -> CallResult {
+/// What a call returns for this refusal.
+pub fn result_of_refusal(Refusal { number, place }: Refusal) -> CallResult {
     CallResult {
         number,
         value: place as u32,

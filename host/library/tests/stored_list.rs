@@ -1,8 +1,10 @@
-//! The library against the stored list of the Rust driver's answers: needs no Rust source.
+//! The library against the stored lists: the Rust driver's answers, and damaged tables. Needs no Rust
+//! source.
 
 use chamrolak::lent::RoomBytes;
-use chamrolak::trial::{judge_tables, Call, Entry};
-use chamrolak::Input;
+use chamrolak::trial::{judge_tables, result_of_refusal, Call, Entry};
+use chamrolak::{check, Input, TableSlices};
+use chamrolak_rules::damaged::DamagedList;
 use chamrolak_rules::tables::{token_bytes, Payloads, Tables};
 use chamrolak_rules::vectors::StoredList;
 
@@ -44,4 +46,14 @@ fn the_library_gives_every_stored_answer() {
         }
     }
     println!("stored list: {} cases, 3 calls each", list.cases.len());
+}
+
+#[test]
+fn the_library_gives_every_stored_refusal() {
+    let list = DamagedList::from_text(include_str!("../../vectors/damaged.txt"));
+    for (number, case) in list.cases.iter().enumerate() {
+        let result = check(&TableSlices::from(&case.payloads));
+        assert_eq!(result, result_of_refusal(case.refusal), "case {number}");
+    }
+    println!("damaged tables: {} cases", list.cases.len());
 }

@@ -124,20 +124,20 @@ fn header_of(payloads: &Payloads) -> String {
              /* clang-format off */\n\n";
     push_kinds(&mut text);
     push_productions(&mut text);
-    let lists = [
-        ("sizes", &payloads.sizes),
-        ("actions", &payloads.actions),
-        ("gotos", &payloads.gotos),
-        ("productions", &payloads.productions),
-        ("rights", &payloads.right_sides),
-        ("items", &payloads.items),
-        ("sets", &payloads.first_sets),
+    let names = [
+        "sizes",
+        "actions",
+        "gotos",
+        "productions",
+        "rights",
+        "items",
+        "sets",
     ];
-    for (name, bytes) in lists {
+    for (name, bytes) in names.into_iter().zip(payloads.lists()) {
         push_bytes(&mut text, name, bytes);
     }
     text += "static const chamrolak_tables recipe_tables = {\n";
-    for (name, _) in lists {
+    for name in names {
         let _ = writeln!(text, "    recipe_{name}, sizeof recipe_{name},");
     }
     text += "};\n\n#endif\n";

@@ -419,15 +419,8 @@ fn damage_lengths(random: &mut Random, payloads: &mut Payloads) {
         payloads.sizes[2 * place..][..2].copy_from_slice(&number.to_le_bytes());
         return;
     }
-    let list = match random.below(7) {
-        0 => &mut payloads.sizes,
-        1 => &mut payloads.actions,
-        2 => &mut payloads.gotos,
-        3 => &mut payloads.productions,
-        4 => &mut payloads.right_sides,
-        5 => &mut payloads.items,
-        _ => &mut payloads.first_sets,
-    };
+    let mut lists = payloads.lists_mut();
+    let list = &mut lists[random.below(7)];
     let bytes = *random.pick(&[1, 2, 4, 8, 33]);
     match random.one_in(2) {
         true => list.truncate(list.len().saturating_sub(bytes)),

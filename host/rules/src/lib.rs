@@ -4,14 +4,15 @@
 //! order. They were written from its text, and not from the Rust driver that it ports; `unchecked` is
 //! a run over tables of which the paper does not speak. `bench` holds the paper's own examples.
 //! `grammar`, `automaton`, `generate` and `random` make tables and inputs for tests, and `example`
-//! those of examples/; `vectors` reads and writes the stored list of answers, and `tally` is what the
-//! programs that compare have in common.
+//! those of examples/; `vectors` reads and writes the stored list of answers, `damaged` makes the one of
+//! refused tables, and `tally` is what the programs that compare have in common.
 #![forbid(unsafe_code)]
 
 pub mod answer;
 pub mod automaton;
 pub mod bench;
 pub mod check;
+pub mod damaged;
 pub mod drive;
 pub mod example;
 pub mod file;

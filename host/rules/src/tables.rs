@@ -205,6 +205,31 @@ impl Tables {
 }
 
 impl Payloads {
+    /// The lists in the paper's order.
+    pub fn lists(&self) -> [&Vec<u8>; 7] {
+        [
+            &self.sizes,
+            &self.actions,
+            &self.gotos,
+            &self.productions,
+            &self.right_sides,
+            &self.items,
+            &self.first_sets,
+        ]
+    }
+
+    pub fn lists_mut(&mut self) -> [&mut Vec<u8>; 7] {
+        [
+            &mut self.sizes,
+            &mut self.actions,
+            &mut self.gotos,
+            &mut self.productions,
+            &mut self.right_sides,
+            &mut self.items,
+            &mut self.first_sets,
+        ]
+    }
+
     /// The numbers in these bytes, or none where "a list's length disagrees with the sizes".
     /// Whether the numbers are in range is the check's to say.
     pub fn decode(&self) -> Option<Tables> {

@@ -37,10 +37,7 @@ pub struct Case {
 impl StoredList {
     pub fn to_text(&self) -> String {
         let mut text = String::new();
-        for (number, tables) in self.tables.iter().enumerate() {
-            let _ = writeln!(text, "table {number}");
-            push_table(&mut text, tables);
-        }
+        push_tables(&mut text, &self.tables);
         for (number, case) in self.cases.iter().enumerate() {
             let _ = writeln!(text, "case {number} {}", case.table);
             push_case(&mut text, case);
@@ -58,6 +55,13 @@ impl StoredList {
             }
         }
         list
+    }
+}
+
+pub(crate) fn push_tables(text: &mut String, list: &[Tables]) {
+    for (number, tables) in list.iter().enumerate() {
+        let _ = writeln!(text, "table {number}");
+        push_table(text, tables);
     }
 }
 
@@ -101,7 +105,7 @@ fn push_case(text: &mut String, case: &Case) {
 }
 
 /// The numbers behind the word, so many on each line.
-fn push_lines<N: ToString>(
+pub(crate) fn push_lines<N: ToString>(
     text: &mut String,
     word: &str,
     per_line: usize,
@@ -114,14 +118,14 @@ fn push_lines<N: ToString>(
 }
 
 /// The lines from one `table` or `case` to the next.
-struct Section<'a> {
-    word: &'a str,
-    head: Vec<i64>,
+pub(crate) struct Section<'a> {
+    pub word: &'a str,
+    pub head: Vec<i64>,
     lists: BTreeMap<&'a str, Vec<i64>>,
 }
 
 impl Section<'_> {
-    fn list(&self, word: &str) -> &[i64] {
+    pub fn list(&self, word: &str) -> &[i64] {
         self.lists.get(word).map_or(&[], |list| list)
     }
 
@@ -146,7 +150,7 @@ impl Section<'_> {
     }
 }
 
-fn sections(text: &str) -> Vec<Section<'_>> {
+pub(crate) fn sections(text: &str) -> Vec<Section<'_>> {
     let mut sections: Vec<Section> = Vec::new();
     for line in text.lines().filter(|line| !line.starts_with('#')) {
         let mut words = line.split_whitespace();
@@ -171,7 +175,7 @@ fn sections(text: &str) -> Vec<Section<'_>> {
     sections
 }
 
-fn table_of(section: &Section) -> Tables {
+pub(crate) fn table_of(section: &Section) -> Tables {
     let payloads = Payloads {
         sizes: section.words("sizes"),
         actions: section.words("actions"),
