@@ -29,5 +29,6 @@ rt staticlib chamrolak
 count host/test.sh
 count host/library/test.sh
 count examples/test.sh
+count examples/files/test.sh
 
 echo "$passed passed, 0 failed"
