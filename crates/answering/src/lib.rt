@@ -1,5 +1,7 @@
 // "The file": what the program prints for a file, written into a lent buffer. The file is read into its payloads, its tokens are
 // widened to a call's, the call is made, and its reply is written as document 01's lines.
+#![tactic(auto)]
+
 ghost use Rattle.std.specs.Prelude.{◌≡◌, ◌+◌, ◌≤◌, min, length, take, drop};
 ghost use Rattle.rules.specs.File.{file_of};
 ghost use Rattle.reader.specs.declared.ReadFile.{ReadFile};

@@ -1,4 +1,6 @@
 // Signed cell decoding: what the 16 bits of an action or goto cell say.
+#![tactic(auto)]
+
 ghost use Rattle.std.specs.Prelude.{◌≡◌};
 ghost use Rattle.cells.specs.Cells.{cell16};
 

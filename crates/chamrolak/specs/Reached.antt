@@ -1,6 +1,6 @@
 -- From the byte model's run to what a call leaves: the refinement, in the words of `Exit`. And the numbers that serve a call.
 use Rattle.std.specs.Prelude.{Bool, true, false, ◌&&◌, List, ◌∷◌, [], ◌++◌, ◌≡◌, refl, ℕ, ◌+◌, ◌*◌, ◌/◌, ◌%◌, ◌<◌, ◌≤◌, ◌^◌, leb, eqb, length, get_or}
-use Rattle.std.proofs.Common.{ap, sym, ◌∙◌, arith, leb_true}
+use Rattle.std.proofs.Common.{ap, sym, ◌∙◌, arith, leb-true}
 use Rattle.std.proofs.Math.Path.{subst⁻¹}
 use Rattle.words.specs.Words.{get16, word16, word32}
 use Rattle.words.specs.Laws.{Bytes, get16_lt, pick_leb}
@@ -117,7 +117,7 @@ word16_lt s at h = pick_leb (λ (n : ℕ). n < 2 ^ 16) (at + 2) (length s) (get1
 few_tokens : (s : List ℕ) → ok18 s ≡ true → length s / 12 ≤ 4096
 unfolding ok18
 few_tokens s e =
-    leb_true (length s / 12) 4096
+    leb-true (length s / 12) 4096
     (and_right (eqb (length s % 12) 0) (leb (length s / 12) 4096)
     (and_left (eqb (length s % 12) 0 && leb (length s / 12) 4096) (all_below (length s / 12) (λ i. leb (word32 s (12 * i)) 65535)) e))
 

@@ -1,5 +1,7 @@
 // The calls of the viewer's C host. None asks anything of its caller: each says what it returns, and what every lent room then holds,
 // for all input. include/chamrolak.h has them for C.
+#![tactic(auto)]
+
 ghost use Rattle.std.specs.Prelude.{true, List, [], ◌≡◌, ℕ, ◌<◌, ◌^◌, length};
 ghost use Rattle.rules.specs.Check.{check, ok18};
 ghost use Rattle.rules.specs.Answers.{drive_reply, parse_reply};

@@ -1,4 +1,6 @@
 // The check 10 to 17: one scan for each number, "in this order, lowest place first".
+#![tactic(auto)]
+
 ghost use Rattle.std.specs.Prelude.{◌≡◌};
 ghost use Rattle.rules.specs.Tables.{item_count};
 ghost use Rattle.rules.specs.Check.{check, check11, check12, check13, check14, check15, check16, check17};

@@ -1,5 +1,7 @@
 // Test 15: "dot > 0 in state 0; production 0 at dot 0 elsewhere; or dot d > 0 and some shift or goto into its state is not over the
 // symbol before the dot, or comes from a state with no item of that production at d-1".
+#![tactic(auto)]
+
 ghost use Rattle.std.specs.Prelude.{◌||◌, not, ◌≡◌, ◌+◌, ◌<◌, ◌^◌, eqb};
 ghost use Rattle.rules.specs.Tables.{goes_to, item_count};
 ghost use Rattle.rules.specs.Check.{ok15};

@@ -7,7 +7,7 @@ use Prim.Native.Nat.{ℕ, zero, suc, ◌+◌, ◌*◌, ◌-◌, ◌≤◌, ◌<�
 use Rattle.std.proofs.Math.Nat.{min-le_right}
 use Rattle.std.proofs.Common.{arith}
 use borrow.Author.Rules.{rules}
-use borrow.Author.Tests.{leb_true, ltb_true}
+use borrow.Author.Tests.{leb-true, ltb-true}
 use Rattle.words.specs.Words.{pick}
 use Rattle.words.specs.Laws.{pick_case}
 use Rattle.rules.specs.declared.Answer.{Answer}
@@ -101,7 +101,7 @@ module _ (C : Call) (room scratch u : ℕ) where
   kept_shift w to k h =
       let fits : Bool = nodes_fit w (w.st.nodes + 1) in
       kept_need (depth_fits C (w.st.height + 2)) OutOfDepth w (need fits OutOfNodes w (shifted C w to)) k
-      (λ d. kept_need fits OutOfNodes w (shifted C w to) k (λ e. kept_shifted w to k h (leb_true _ _ d)))
+      (λ d. kept_need fits OutOfNodes w (shifted C w to) k (λ e. kept_shifted w to k h (leb-true _ _ d)))
 
   -- a reduction is made in the main loop and in the error column, where nothing is asked of what is popped
   abbrev Free : St → Type 0
@@ -124,7 +124,7 @@ module _ (C : Call) (room scratch u : ℕ) where
       kept_need (depth_fits C (rest + 2)) OutOfDepth w (need holds OutOfChildren w (need fits OutOfNodes w o)) k
       (λ d.
       kept_need holds OutOfChildren w (need fits OutOfNodes w o) k
-      (λ b. kept_need fits OutOfNodes w o k (λ c. kept_reduced w p n rest k f e (leb_true _ _ d))))
+      (λ b. kept_need fits OutOfNodes w o k (λ c. kept_reduced w p n rest k f e (leb-true _ _ d))))
 
   kept_reduce : (w : World) (p : ℕ) → Before w.st → Free w.st → After (reduce C w p).st
   unfolding reduce
@@ -152,7 +152,7 @@ module _ (C : Call) (room scratch u : ℕ) where
   kept_main : (w : World) (token : Bool) (cell : Cell) → has_token C w.st ≡ token → Before w.st → Free w.st →
       After (main_look C w token cell).st
   unfolding main_look
-  kept_main w true (Shift s) e k f = kept_shift w s k (ltb_true _ _ e)
+  kept_main w true (Shift s) e k f = kept_shift w s k (ltb-true _ _ e)
   kept_main w false (Shift s) e k f = kept_fail w _ k
   kept_main w true (Reduce p) e k f = kept_main_reduce w true p.0 k f
   kept_main w false (Reduce p) e k f = kept_main_reduce w false p.0 k f
@@ -186,7 +186,7 @@ module _ (C : Call) (room scratch u : ℕ) where
   kept_drop w k =
       let top : ℕ = top_at w.stack w.st.height in
       kept_pick (has_token C w.st) (arrived C (dropped w.st) top) (ended w.st (answer_of w.st.formed))
-      (λ e. kept_arrived (dropped w.st) top (kept_dropped w.st k (ltb_true _ _ e)))
+      (λ e. kept_arrived (dropped w.st) top (kept_dropped w.st k (ltb-true _ _ e)))
       (λ e. kept_ended 1 w.st (answer_of w.st.formed) k)
 
   kept_further : (w : World) → Before w.st → After (further C w).st
@@ -194,7 +194,7 @@ module _ (C : Call) (room scratch u : ℕ) where
   kept_further w k =
       pick_case (λ o. After o.st) (ltb w.st.popped w.st.height) (with_st w (searching w.st (w.st.popped + 1)))
       (drop_token C w)
-      (λ e. let h : w.st.popped < w.st.height = ltb_true _ _ e in kept_searching w.st
+      (λ e. let h : w.st.popped < w.st.height = ltb-true _ _ e in kept_searching w.st
       (w.st.popped + 1) k (omega arith))
       (λ e. kept_drop w k)
 
@@ -207,7 +207,7 @@ module _ (C : Call) (room scratch u : ℕ) where
   unfolding simulate_on push_state
   kept_simulate_on w base pushed s k h f =
       kept_need (depth_fits C (base + pushed + 2)) OutOfDepth w (push_state w base pushed s) k
-      (λ e. kept_simulating w.st base pushed k h (leb_true _ _ e) (f (leb_true _ _ e)))
+      (λ e. kept_simulating w.st base pushed k h (leb-true _ _ e) (f (leb-true _ _ e)))
 
   kept_search : (w : World) (cell : Cell) → Before w.st → w.st.popped ≤ w.st.height → After (search_look C w cell).st
   unfolding search_look

@@ -1,5 +1,7 @@
 // The driver: a run begins, and goes on by steps, each one look at an action cell and what it then does.
 // A run is the byte model's, for every call that the numbers and slices serve: `drive`, whose parts are `begin`, `run` and `step`.
+#![tactic(auto)]
+
 ghost use Rattle.std.specs.Prelude.{List, ◌≡◌, ℕ, ◌+◌, ◌*◌, ◌-◌, ◌/◌, ◌≤◌, ◌<◌, ◌^◌, min, length};
 ghost use Rattle.model.specs.Model.{Call, has_token, formed_at, fail, first_st, begin, step, is_ended, run_from};
 ghost use Rattle.moves.specs.Serving.{Reads, Goes, Acts, world};

@@ -1,7 +1,7 @@
 -- Test 17 over the slices and the numbers that it reads: what the functions of `following` are proved equal to.
 -- The numbers are n states, t user kinds, m nonterminals, k productions and the item count. The laws say that each is the rules' own.
 use Rattle.std.specs.Prelude.{Bool, false, ◌&&◌, ◌||◌, not, List, ◌≡◌, refl, ℕ, suc, ◌+◌, ◌*◌, ◌-◌, ◌<◌, leb, ltb, eqb, drop}
-use Rattle.std.proofs.Common.{add-one, arith, ltb_true}
+use Rattle.std.proofs.Common.{add-one, arith, ltb-true}
 use Rattle.words.specs.Words.{pick, word16}
 use Rattle.rules.specs.declared.Cell.{Cell}
 use Rattle.rules.specs.declared.Cell.TheVariants.{Shift, Reduce, Error}
@@ -114,7 +114,7 @@ follows_in_law T s p d a h =
 dot_follows_in : (T : Tables) (s p d a : ℕ) → pick (ltb d (size T p)) (follows_symbol T s p d a) (reduces (action T s a) p) ≡ dot_follows T.actions T.gotos T.productions T.rights T.items T.sets (states T) (kinds T) (nonterminals T) (production_count T) (item_count T) s p d a
 unfolding dot_follows size
 dot_follows_in T s p d a =
-    case_of (ltb d (size T p)) (λ e. rw e (follows_in_law T s p d a (ltb_true _ _ e))) (λ e. rw (e, action_in_law))
+    case_of (ltb d (size T p)) (λ e. rw e (follows_in_law T s p d a (ltb-true _ _ e))) (λ e. rw (e, action_in_law))
 
 pub follow_ups_in_law : (T : Tables) (s p d a : ℕ) → follow_ups T s p d a ≡ follow_ups_in T.actions T.gotos T.productions T.rights T.items T.sets (states T) (kinds T) (nonterminals T) (production_count T) (item_count T) s p d a
 unfolding follow_ups follow_ups_in has_goto has_goto_in left

@@ -1,4 +1,6 @@
 // Test 17: "an item lacks its follow-up"; place "item count where (0, 0, 0, end) is missing, tested last".
+#![tactic(auto)]
+
 ghost use Rattle.std.specs.Prelude.{◌≡◌, ◌+◌, ◌*◌, ◌<◌, ◌≤◌, ◌^◌};
 ghost use Rattle.words.specs.Words.{word16};
 ghost use Rattle.rules.specs.Tables.{is_shift, item_count};

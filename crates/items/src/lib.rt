@@ -1,4 +1,6 @@
 // The items of a call's tables, the lookup among them, and transitions; in a module of its own test 16 of the check.
+#![tactic(auto)]
+
 ghost use Rattle.std.specs.Prelude.{◌≡◌, ◌+◌, ◌<◌, ◌^◌};
 ghost use Rattle.tables.specs.Rights.{start_in};
 ghost use Rattle.items.specs.Bounds.{Grid};

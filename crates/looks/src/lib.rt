@@ -1,5 +1,7 @@
 // One look at an action cell, for each mode of a run: what the run then does. These functions read only, and decide.
 // Each says of the byte model that the mode's look is the act that was decided.
+#![tactic(auto)]
+
 ghost use Rattle.std.specs.Prelude.{List, ◌≡◌, ℕ, ◌+◌, ◌*◌, ◌-◌, ◌≤◌, ◌<◌, ◌^◌, eqb, length};
 ghost use Rattle.words.specs.Words.{pick};
 ghost use Rattle.rules.specs.declared.Cell.TheVariants.{Shift};

@@ -1,7 +1,7 @@
 -- What an accepted call leaves accounts for every token that was read: by one leaf or by exactly one mark's stretch; and the list with
 -- one error token for each stretch is accepted by the plain driver, with the same productions over the same leaves.
 use Rattle.std.specs.Prelude.{◌≡◌, refl, Bool, true, false, List, ℕ, ◌≤◌, ◌<◌, length}
-use Rattle.std.proofs.Common.{subst, arith, ltb_true}
+use Rattle.std.proofs.Common.{subst, arith, ltb-true}
 use Rattle.words.specs.Words.{pick}
 use Rattle.rules.specs.declared.Token.{Token}
 use Rattle.rules.specs.declared.Formed.{Formed}
@@ -109,4 +109,4 @@ answered_run T s origin L a r h e =
 
 pub reads_user_kinds : (T : Tables) (tokens : List Token) (origin : ℕ) (L : Limits) (k : ℕ) → (job_of T tokens origin L).reads k ≡ true → k ≤ kinds T
 unfolding job_of
-reads_user_kinds T tokens origin L k e = let h = ltb_true k (kinds T) e in omega arith
+reads_user_kinds T tokens origin L k e = let h = ltb-true k (kinds T) e in omega arith

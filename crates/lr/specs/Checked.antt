@@ -10,7 +10,7 @@ use Rattle.std.proofs.Math.Nat.{mul-add-mod_self_right, mul-add-div_right, mod-e
 use native.Mathlib.Omega.{arith}
 use Rattle.std.proofs.Math.Decide.{dec_lt}
 use Rattle.std.proofs.Math.Dec.{leb, ltb, eqb}
-use borrow.Author.Tests.{ltb_true, leb_true, leb-false, eqb-true, eqb-false, not-true, lt-ltb, le-ltb, lt-leb, eq-eqb, ne_eqb}
+use borrow.Author.Tests.{ltb-true, leb-true, leb-false, eqb-true, eqb-false, not-true, lt-ltb, le-ltb, lt-leb, eq-eqb, ne_eqb}
 use Rattle.words.specs.Words.{pick}
 use Rattle.rules.specs.declared.Cell.{Cell}
 use Rattle.rules.specs.declared.Cell.TheVariants.{Shift, Reduce, Error}
@@ -106,7 +106,7 @@ action_in_law : (T : Tables) (s c : ℕ) (x : Cell) → action T s c ≡ x → (
 unfolding action
 action_in_law T s c x e ne =
     ⊎_elim
-    (λ t. (ltb_true _ _ (and_left (ltb s (states T)) (ltb c (columns T)) t), ltb_true _ _ (and_right (ltb s (states T)) (ltb c (columns T)) t), sym (pick_true _ Error t) ∙ e))
+    (λ t. (ltb-true _ _ (and_left (ltb s (states T)) (ltb c (columns T)) t), ltb-true _ _ (and_right (ltb s (states T)) (ltb c (columns T)) t), sym (pick_true _ Error t) ∙ e))
     (λ f. absurd (ne (sym e ∙ pick_false (cell_at T.actions (s * columns T + c)) Error f)))
     (whether (ltb s (states T) && ltb c (columns T)))
 
@@ -114,7 +114,7 @@ goto_in_law : (T : Tables) (s j : ℕ) (x : Cell) → goto T s j ≡ x → (x �
 unfolding goto
 goto_in_law T s j x e ne =
     ⊎_elim
-    (λ t. (ltb_true _ _ (and_left (ltb s (states T)) (ltb j (nonterminals T)) t), ltb_true _ _ (and_right (ltb s (states T)) (ltb j (nonterminals T)) t), sym (pick_true _ Error t) ∙ e))
+    (λ t. (ltb-true _ _ (and_left (ltb s (states T)) (ltb j (nonterminals T)) t), ltb-true _ _ (and_right (ltb s (states T)) (ltb j (nonterminals T)) t), sym (pick_true _ Error t) ∙ e))
     (λ f. absurd (ne (sym e ∙ pick_false (cell_at T.gotos (s * nonterminals T + j)) Error f)))
     (whether (ltb s (states T) && ltb j (nonterminals T)))
 
@@ -180,14 +180,14 @@ module _ (T : Tables) (ok : check T ≡ Passes) where
 
   kinds_small : kinds T ≤ 254
   kinds_small =
-      leb_true (kinds T) 254
+      leb-true (kinds T) 254
       (and_right (leb 1 (kinds T)) (leb (kinds T) 254)
       (and_right (between 1 max_states (states T)) (between 1 254 (kinds T))
       (and_left _ (between 1 255 (nonterminals T)) (and_left _ (between 1 1024 (production_count T)) first_sizes))))
 
   some_production : 1 ≤ production_count T
   some_production =
-      leb_true 1 (production_count T)
+      leb-true 1 (production_count T)
       (and_left (leb 1 (production_count T)) (leb (production_count T) 1024)
       (and_right (between 1 max_states (states T) && between 1 254 (kinds T) && between 1 255 (nonterminals T)) (between 1 1024 (production_count T)) first_sizes))
 
@@ -218,7 +218,7 @@ module _ (T : Tables) (ok : check T ≡ Passes) where
   enters s e =
       record {
         not_first = eqb-false s 0 (not-true (eqb s 0) (and_left (not (eqb s 0)) (ltb s (states T)) e));
-        known = ltb_true s (states T) (and_right (not (eqb s 0)) (ltb s (states T)) e);
+        known = ltb-true s (states T) (and_right (not (eqb s 0)) (ltb s (states T)) e);
       }
 
   shift_enters : (s c : ℕ) (n : StateNo) → action T s c ≡ Shift n → Enters T n.0
@@ -248,7 +248,7 @@ module _ (T : Tables) (ok : check T ≡ Passes) where
 
   symbol_in_law : (p d : ℕ) → p < production_count T → d < size T p → symbol T p d < symbol_count T
   unfolding symbol_fits
-  symbol_in_law p d h k = ltb_true _ _ (and_left _ (not (eqb (symbol T p d) (symbol_of T 0))) (symbols_fit p h d k))
+  symbol_in_law p d h k = ltb-true _ _ (and_left _ (not (eqb (symbol T p d) (symbol_of T 0))) (symbols_fit p h d k))
 
   symbol_not_start : (p d : ℕ) → p < production_count T → d < size T p → symbol T p d ≢ symbol_of T 0
   unfolding symbol_fits
@@ -277,7 +277,7 @@ module _ (T : Tables) (ok : check T ≡ Passes) where
 
   left_in : (p : ℕ) → suc p < production_count T → left T (suc p) < nonterminals T
   unfolding left_fits
-  left_in p h = ltb_true _ _ (and_right (not (eqb (left T (suc p)) 0)) _ (left_fits_law (suc p) h))
+  left_in p h = ltb-true _ _ (and_right (not (eqb (left T (suc p)) 0)) _ (left_fits_law (suc p) h))
 
   -- 13
   null_closed : (p : ℕ) → p < production_count T → all_nullable T (rhs T p) ≡ true → nullable T (symbol_of T (left T p)) ≡ true
@@ -303,10 +303,10 @@ module _ (T : Tables) (ok : check T ≡ Passes) where
       let C : Bool = leb y.dot (size T y.production) in
       let D : Bool = leb y.lookahead (end_column T) in
       let e : (A && B && C && D) ≡ true = and_left (A && B && C && D) _ (all.1.1.1.1.0 x.index x.inside) in
-      let fa : y.state < states T = ltb_true _ _ (and_left A B (and_left (A && B) C (and_left (A && B && C) D e))) in
-      let fb : y.production < production_count T = ltb_true _ _ (and_right A B (and_left (A && B) C (and_left (A && B && C) D e))) in
-      let fc : y.dot ≤ size T y.production = leb_true _ _ (and_right (A && B) C (and_left (A && B && C) D e)) in
-      let fd : y.lookahead ≤ end_column T = leb_true _ _ (and_right (A && B && C) D e) in
+      let fa : y.state < states T = ltb-true _ _ (and_left A B (and_left (A && B) C (and_left (A && B && C) D e))) in
+      let fb : y.production < production_count T = ltb-true _ _ (and_right A B (and_left (A && B) C (and_left (A && B && C) D e))) in
+      let fc : y.dot ≤ size T y.production = leb-true _ _ (and_right (A && B) C (and_left (A && B && C) D e)) in
+      let fd : y.lookahead ≤ end_column T = leb-true _ _ (and_right (A && B && C) D e) in
       record {
         state_in_law = rw x.in_state at fa;
         production_in_law = rw x.of_production at fb;
@@ -334,7 +334,7 @@ module _ (T : Tables) (ok : check T ≡ Passes) where
     where
       term : is_terminal T X ≡ true → (r < states T) × (X < symbol_count T)
       term t =
-          let k : X ≤ kinds T = leb_true _ _ t in
+          let k : X ≤ kinds T = leb-true _ _ t in
           ((action_in_law T r X (Shift (record { 0 = s })) (sym (pick_true _ _ t) ∙ e) (shift_not_error _)).0, omega arith)
 
       nonterm : is_terminal T X ≡ false → (r < states T) × (X < symbol_count T)
@@ -357,7 +357,7 @@ module _ (T : Tables) (ok : check T ≡ Passes) where
   -- 16
   reduce_known : (s c : ℕ) (p : ProdNo) → action T s c ≡ Reduce p → p.0 < production_count T
   unfolding action_fits
-  reduce_known s c p e = ltb_true _ _ (action_fits_law s c (Reduce p) e (reduce_not_error p))
+  reduce_known s c p e = ltb-true _ _ (action_fits_law s c (Reduce p) e (reduce_not_error p))
 
   reduce_item : (s c : ℕ) (p : ProdNo) → action T s c ≡ Reduce p → (a : ℕ) × Has T s p.0 (size T p.0) a
   unfolding ok16 reduce_fits

@@ -2,7 +2,7 @@
 -- the highest state. Along a search every pair passed over has said no, since a simulation that is made is the one that is asked.
 use Rattle.std.specs.Prelude.{◌≡◌, Bool, true, List, ◌∷◌, ℕ, suc, ◌+◌, ◌≤◌, ◌<◌, ltb, length, drop}
 use Rattle.std.proofs.Math.Path.{refl}
-use Rattle.std.proofs.Common.{sym, subst, append_nil, arith}
+use Rattle.std.proofs.Common.{sym, subst, append-nil, arith}
 use Rattle.std.proofs.Math.Bool.{false}
 use Rattle.std.proofs.Math.Decide.{dec_lt}
 use Rattle.words.specs.Words.{pick}
@@ -177,7 +177,7 @@ module _ (J : Job) where
   known_view r m o w i h (View.fails t e) = tt
   known_view r m o w i h (View.forms t e) =
       (record { run = r; reached = w; in_main = i; failed = e; is = formed_counted r (has_token J r); since = refl }, formed_from (counted r) (has_token J r))
-  known_view r m o w i h (View.column_reduces p e) = (still_formed h.0 (sym (append_nil r.marks)), h.1)
+  known_view r m o w i h (View.column_reduces p e) = (still_formed h.0 (sym (append-nil r.marks)), h.1)
   known_view r m o w i h (View.accepts_early e) = tt
   known_view r m o w i h (View.column_ends e) =
       let at = h.1 in

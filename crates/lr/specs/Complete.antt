@@ -1,7 +1,7 @@
 -- The plain driver is complete: every derivation's token list is accepted, with that tree; so no list has two derivation trees.
 -- The steps of `Small` are steps of the machine of `rules` with flag 0, no limits and kind t read as column t.
 use Rattle.std.specs.Prelude.{Bool, true, false, List, [], ◌∷◌, ◌≡◌, refl, ℕ, zero, suc, ◌+◌, ◌-◌, ◌≤◌, ◌<◌, length, get_or, take, drop}
-use Rattle.std.proofs.Common.{⊎_elim, sym, ap, subst, ◌∙◌, suc-add, add-one, arith, ltb_true, leb_true, le-leb, lt-ltb, le-ltb, ne_eqb}
+use Rattle.std.proofs.Common.{⊎_elim, sym, ap, subst, ◌∙◌, suc-add, add-one, arith, ltb-true, leb-true, le-leb, lt-ltb, le-ltb, ne_eqb}
 use Rattle.std.proofs.Math.Logic.{by_cases}
 use Rattle.std.proofs.Math.Decide.{dec_le}
 use Rattle.rules.specs.declared.Token.{Token}
@@ -84,7 +84,7 @@ arrives {J} F r = ⊎_elim reads_it at_end_law (whether (has_token J r))
 
     reads_it : has_token J r ≡ true → (l : ℕ) × (arrive J r ≡ more (read_to r l))
     reads_it h =
-        let i : r.next < length J.tokens = ltb_true r.next (length J.tokens) h in
+        let i : r.next < length J.tokens = ltb-true r.next (length J.tokens) h in
         let k : (token_at J r.next).kind ≤ kinds J.tables = F.fits.reads_in _ (F.all_read r.next i) in
         let few : kinds J.tables ≤ 254 = F.fits.laws.few_kinds in
         ((token_at J r.next).end, pick_true _ _ h ∙ (pick_false _ _ (ne_eqb (token_at J r.next).kind 65535 (λ e. omega arith)) ∙ pick_true _ _ (F.all_read r.next i)))
@@ -275,7 +275,7 @@ pub plain_free : (T : Tables) (tokens : List Token) (origin : ℕ) → check T �
 unfolding plain_job
 plain_free T tokens origin ok R =
     record {
-      fits = record { laws = laws T ok; reads_in = λ k e. leb_true k (kinds T) e };
+      fits = record { laws = laws T ok; reads_in = λ k e. leb-true k (kinds T) e };
       depth_fits_law = λ n. refl;
       children_fit_law = λ n. refl;
       nodes_fit_law = λ n. refl;

@@ -7,7 +7,7 @@ use Rattle.std.proofs.Math.Path.{refl, ap, subst}
 use Rattle.std.proofs.Common.{sym, ◌∙◌, arith}
 use Prim.Native.Nat.{ℕ, zero, suc, ◌+◌, ◌≤◌}
 use Rattle.std.proofs.Math.ListN.{length, drop}
-use borrow.Author.Tests.{ltb_true}
+use borrow.Author.Tests.{ltb-true}
 use Rattle.words.specs.Laws.{pick_case}
 use Rattle.rules.specs.declared.Cell.{Cell}
 use Rattle.rules.specs.declared.Cell.TheVariants.{Shift, Reduce, Error}
@@ -217,7 +217,7 @@ module _ (J : Job) (fits : Fits J) (r : Run) (ok : OK J r) where
   does_further : (f : Formed) (k : ℕ) → Carries r.mode f → Does J r (further J (counted r) f k)
   unfolding further drop_token
   does_further f k c =
-      pick_case (Does J r) (ltb k (length r.stack)) _ _ (λ t. turns f {m = search f (k + 1)} c refl (omega (arith, ltb_true k (length r.stack) t)))
+      pick_case (Does J r) (ltb k (length r.stack)) _ _ (λ t. turns f {m = search f (k + 1)} c refl (omega (arith, ltb-true k (length r.stack) t)))
       (λ t. pick_case (Does J r) (has_token J r) _ _ (λ h. drops f c h) (λ h. gives_up f c h))
 
   does_recover : (f : Formed) (k : ℕ) {s : StateNo} → Carries r.mode f → k ≤ length r.stack
@@ -311,7 +311,7 @@ stays F ok (stops s) = tt
 stays {J} {r} F ok (shifts {s = s} e h a) =
     let k : (token_at J r.next).kind ≤ kinds J.tables = F.reads_in _ (ok.readable h) in
     let m : Moves J.tables (top_of (states_of r.stack)) (token_at J r.next).kind s.0 = move_terminal J.tables _ _ k ∙ rw top_of_states a in
-    arrive_ok J _ (above m ok.along) (omega (arith, ltb_true r.next (length J.tokens) h)) tt
+    arrive_ok J _ (above m ok.along) (omega (arith, ltb-true r.next (length J.tokens) h)) tt
 stays {J} {r} F ok (reduces {p = p} {m = mode} e l d) =
     let rest : List Entry = drop (size J.tables (suc p)) r.stack in
     let m : Moves J.tables (top_of (states_of rest)) (symbol_of J.tables (left J.tables (suc p))) (target (goto J.tables (top_state rest) (left J.tables (suc p)))) =
@@ -334,7 +334,7 @@ stays F ok (refuses e h) = tt
 stays F ok (forms e h) = record { along = ok.along; in_tokens = ok.in_tokens; readable = ok.readable; mode_ok = tt }
 stays F ok (early e q x) = tt
 stays F ok (turns f c d m) = record { along = ok.along; in_tokens = ok.in_tokens; readable = ok.readable; mode_ok = m }
-stays {J} {r} F ok (drops f c h) = arrive_ok J _ ok.along (omega (arith, ltb_true r.next (length J.tokens) h)) (omega arith)
+stays {J} {r} F ok (drops f c h) = arrive_ok J _ ok.along (omega (arith, ltb-true r.next (length J.tokens) h)) (omega arith)
 stays F ok (gives_up f c h) = tt
 stays {J} {r} F ok (marks f k {s = s} c l a) =
     let rest : List Entry = drop k r.stack in

@@ -1,7 +1,7 @@
 -- The run under limits is the run without them, cut at the first step that asks for more than fits; the answer says for what.
 -- Each step's demands stand in a list, in the order of the tests; nothing else of a step reads a limit.
 use Rattle.std.specs.Prelude.{◌≡◌, refl, Bool, true, false, List, [], ◌∷◌, ℕ, zero, suc, ◌+◌, ◌≤◌, ◌<◌, leb, length, take, drop}
-use Rattle.std.proofs.Common.{sym, ap, ◌∙◌, subst, true≢false, arith, leb_true, le-leb}
+use Rattle.std.proofs.Common.{sym, ap, ◌∙◌, subst, true≢false, arith, leb-true, le-leb}
 use Rattle.std.proofs.Math.Decide.{dec_lt}
 use Rattle.rules.specs.declared.Cell.{Cell}
 use Rattle.rules.specs.declared.Cell.TheVariants.{Shift, Reduce, Error}
@@ -407,7 +407,7 @@ pub record AtLeast (L L' : Limits) : Type 0 where
   pub records : L.records ≤ L'.records
 
 still_fits : (n a b : ℕ) → a ≤ b → leb n a ≡ true → leb n b ≡ true
-still_fits n a b h e = let l = leb_true n a e in le-leb n b (omega arith)
+still_fits n a b h e = let l = leb-true n a e in le-leb n b (omega arith)
 
 pub roomier_call : (T : Tables) (tokens : List Token) (origin : ℕ) (L L' : Limits) → AtLeast L L' → Roomier (job_of T tokens origin L) (job_of T tokens origin L')
 unfolding job_of unlimited

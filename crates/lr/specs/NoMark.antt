@@ -3,7 +3,7 @@
 use Rattle.std.specs.Prelude.{Bool, ◌⊎◌, ◌≡◌, refl, eqb, leb, get_or, take, drop}
 use Rattle.std.proofs.Math.Bool.{true, false}
 use mathlib.Core.List.{List, []}
-use Rattle.std.proofs.Common.{inl, inr, ⊎_elim, sym, ap, ◌∙◌, arith, lit≤, ltb_true, lt-ltb, le-leb}
+use Rattle.std.proofs.Common.{inl, inr, ⊎_elim, sym, ap, ◌∙◌, arith, lit≤, ltb-true, lt-ltb, le-leb}
 use Rattle.std.proofs.Math.Path.{subst}
 use Prim.Native.Nat.{ℕ, zero, suc, ◌+◌, ◌≤◌, ◌<◌}
 use Rattle.std.proofs.Math.ListN.{length}
@@ -82,7 +82,7 @@ arrive_same : (J : Job) → AllRead J → (r : Run) → arrive (freed J) r ≡ a
 unfolding arrive
 arrive_same J R r =
     ⊎_elim
-    (λ h. pick_true (judge_kind (freed J) r (token_at J r.next)) (more r) h ∙ (judge_same J R r (ltb_true r.next (length J.tokens) h) ∙ sym (pick_true (judge_kind J r (token_at J r.next)) (more r) h)))
+    (λ h. pick_true (judge_kind (freed J) r (token_at J r.next)) (more r) h ∙ (judge_same J R r (ltb-true r.next (length J.tokens) h) ∙ sym (pick_true (judge_kind J r (token_at J r.next)) (more r) h)))
     (λ h. pick_false (judge_kind (freed J) r (token_at J r.next)) (more r) h ∙ sym (pick_false (judge_kind J r (token_at J r.next)) (more r) h))
     (whether (has_token J r))
 

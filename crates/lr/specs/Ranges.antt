@@ -7,7 +7,7 @@ use Rattle.std.proofs.Math.Logic.{inl, inr}
 use Rattle.std.proofs.Math.Bool.{true, false}
 use mathlib.Core.List.{List, [], ◌∷◌}
 use native.Mathlib.Omega.{arith}
-use borrow.Author.Tests.{ltb_true, ltb-false}
+use borrow.Author.Tests.{ltb-true, ltb-false}
 use Rattle.rules.specs.declared.StateNo.{StateNo}
 use Rattle.rules.specs.declared.Entry.{Entry}
 use Rattle.rules.specs.declared.Formed.{Formed}
@@ -87,7 +87,7 @@ module _ (J : Job) where
   ranges_shifted : (r : Run) (s : StateNo) → Ranges J r Mode.main → has_token J r ≡ true → Ranges J (shifted J r s) Mode.main
   unfolding grow token_entry
   ranges_shifted r s h t =
-      let less = ltb_true r.next (length J.tokens) t in
+      let less = ltb-true r.next (length J.tokens) t in
       record { reach = omega arith; ranges = (refl, omega arith, h.ranges); recorded = each_append (Recorded J) r.marks [] h.recorded tt }
 
   production_joined : (r : Run) (p : ℕ) (m : Mode) → Joined r.stack r.next → Joined (reduced J r p m).stack r.next
@@ -111,7 +111,7 @@ module _ (J : Job) where
 
   arose_formed : (r : Run) (t : Bool) → r.next ≤ length J.tokens → has_token J r ≡ t → Arose J (formed r t)
   unfolding formed
-  arose_formed r true h e = inl (refl, refl, ltb_true r.next (length J.tokens) e)
+  arose_formed r true h e = inl (refl, refl, ltb-true r.next (length J.tokens) e)
   arose_formed r false h e = let over = ltb-false r.next (length J.tokens) e in inr (refl, omega arith)
 
   ranges_recovered : (r : Run) (f : Formed) (k : ℕ) (sim : List ℕ) → Ranges J r (Mode.simulate f k sim) → Ranges J (recovered J r f k) Mode.main
@@ -134,7 +134,7 @@ module _ (J : Job) where
   dropped_one : (r : Run) (f : Formed) (k : ℕ) {m : Mode} → Searching J r.stack r.next f k → Ranges J r m → has_token J r ≡ true
       → Ranges J (advanced r (Mode.search f 0)) (Mode.search f 0)
   dropped_one r f k g h t =
-      let less = ltb_true r.next (length J.tokens) t in
+      let less = ltb-true r.next (length J.tokens) t in
       let n = g.onward in
       record {
         reach = omega arith;

@@ -5,7 +5,7 @@ use Rattle.std.proofs.Math.Path.{refl, subst}
 use Rattle.std.proofs.Common.{sym, arith}
 use Rattle.std.proofs.Math.Bool.{true, false}
 use Prim.Native.Nat.{ℕ, zero, suc, ◌+◌, ◌-◌, ◌≤◌, ◌<◌}
-use borrow.Author.Tests.{lt-ltb, le-ltb, ltb_true, ne_eqb}
+use borrow.Author.Tests.{lt-ltb, le-ltb, ltb-true, ne_eqb}
 use Rattle.rules.specs.declared.Cell.{Cell}
 use Rattle.rules.specs.declared.Cell.TheVariants.{Shift, Reduce, Error}
 use Rattle.rules.specs.declared.StateNo.{StateNo}
@@ -186,7 +186,7 @@ module _ (J : Job) (free : NoLimit J) (f : Formed) where
   arrives_by : (r : Run) (t : Bool) → has_token J r ≡ t → ReadAt J r.next → (l : ℕ) × (arrive J r ≡ Outcome.more (read_to r l))
   unfolding arrive judge_kind
   arrives_by r true h read =
-      let g = read (ltb_true r.next (length J.tokens) h) in
+      let g = read (ltb-true r.next (length J.tokens) h) in
       ((token_at J r.next).end, rw (h, ne_eqb (token_at J r.next).kind 65535 g.1, g.0) refl)
   arrives_by r false h read = (r.last, rw h refl)
 

@@ -1,7 +1,7 @@
 -- The plain driver is sound: what it accepts is derived by the tree that it builds, whose leaves are the tokens in order.
 -- Beside the trees of `Stands` a run without recovery keeps this: the leaves on its stack, then the tokens ahead, are all tokens.
 use Rattle.std.specs.Prelude.{Bool, true, false, List, [], ◌∷◌, ◌++◌, ◌≡◌, refl, ℕ, zero, suc, ◌+◌, eqb, length, take, drop}
-use Rattle.std.proofs.Common.{sym, ap, subst, ◌∙◌, add-one, arith, ltb_true, ltb-false, leb_true}
+use Rattle.std.proofs.Common.{sym, ap, subst, ◌∙◌, add-one, arith, ltb-true, ltb-false, leb-true}
 use Rattle.words.specs.Laws.{pick_case}
 use Rattle.rules.specs.declared.Token.{Token}
 use Rattle.rules.specs.declared.What.{What}
@@ -147,7 +147,7 @@ reads_on {J} {r} F nr ok rd (shifts {s = s} e h a) = shifted rd.ahead refl
         }
 
     shifted : (k : ℕ) → rd.ahead ≡ k → Reads J (arrive J next)
-    shifted zero q = absurd (omega (arith, rd.place, ltb_true r.next (length J.tokens) h))
+    shifted zero q = absurd (omega (arith, rd.place, ltb-true r.next (length J.tokens) h))
     shifted (suc k) q = arrive_keeps (Reads J) J next (one k q) (λ l. reread (r.units + 1) l (one k q)) tt (λ l. tt)
 reads_on {J} {r} F nr ok rd (reduces {p = p} e l d) =
     record {
@@ -193,7 +193,7 @@ run_reads {J} F nr n =
 
 pub plain_fits : (T : Tables) (tokens : List Token) (origin : ℕ) → check T ≡ Passes → Fits (plain_job T tokens origin)
 unfolding plain_job
-plain_fits T tokens origin ok = record { laws = laws T ok; reads_in = λ k e. leb_true k (kinds T) e }
+plain_fits T tokens origin ok = record { laws = laws T ok; reads_in = λ k e. leb-true k (kinds T) e }
 
 -- a derivation of a token list from the nonterminal on production 0's right side
 pub record Derivation (T : Tables) (tokens : List Token) (tree : Tree Leaf) : Type 0 where

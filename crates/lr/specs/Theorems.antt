@@ -1,7 +1,7 @@
 -- What is shown of the rules: of the check, of the driver over tables that pass it, and of every run. Each statement is in the words of
 -- document 01 or of a demand, which its comment quotes; each proof is the lemma of the file that it cites.
 use Rattle.std.specs.Prelude.{true, false, Bool, List, [], map, ◌↔◌, ◌⊎◌, ◌≡◌, refl, ℕ, suc, ◌+◌, ◌≤◌, ◌<◌, length, drop}
-use Rattle.std.proofs.Common.{sym, subst, arith, ltb_true, le-ltb}
+use Rattle.std.proofs.Common.{sym, subst, arith, ltb-true, le-ltb}
 use Rattle.rules.specs.declared.Cell.TheVariants.{Shift, Reduce}
 use Rattle.rules.specs.declared.StateNo.{StateNo}
 use Rattle.rules.specs.declared.Token.{Token}
@@ -70,7 +70,7 @@ passing_laws T ok = laws T ok
 -- A call's run, and the plain driver's, are runs of jobs over passing tables.
 pub call_fits : (T : Tables) (tokens : List Token) (origin : ℕ) (L : Limits) → check T ≡ Passes → Fits (job_of T tokens origin L)
 unfolding job_of
-call_fits T tokens origin L ok = record { laws = laws T ok; reads_in = λ k e. omega (arith, ltb_true k (kinds T) e) }
+call_fits T tokens origin L ok = record { laws = laws T ok; reads_in = λ k e. omega (arith, ltb-true k (kinds T) e) }
 
 pub plain_driver_fits : (T : Tables) (tokens : List Token) (origin : ℕ) → check T ≡ Passes → Fits (plain_job T tokens origin)
 plain_driver_fits T tokens origin ok = plain_fits T tokens origin ok
@@ -126,7 +126,7 @@ pub column_is_a_user_kind : (T : Tables) (tokens : List Token) (origin : ℕ) (L
     → has_token (job_of T tokens origin L) r ≡ true → look_column (job_of T tokens origin L) r < kinds T
 unfolding job_of
 column_is_a_user_kind T tokens origin L ok r h e =
-    ltb_true (look_column (job_of T tokens origin L) r) (kinds T) (column_is_the_token's (job_of T tokens origin L) (call_fits T tokens origin L ok) r h e).1
+    ltb-true (look_column (job_of T tokens origin L) r) (kinds T) (column_is_the_token's (job_of T tokens origin L) (call_fits T tokens origin L ok) r h e).1
 
 -- ---- 3. "Derivations are the ordinary context-free ones"
 

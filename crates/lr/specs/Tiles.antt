@@ -2,7 +2,7 @@
 -- before it ended. So each token of the range is one leaf or lies in exactly one mark's stretch, in order, and no stretch is broken.
 use Rattle.std.specs.Prelude.{◌≡◌, refl, Bool, true, false, ◌&&◌, List, [], ◌∷◌, ◌++◌, ℕ, suc, ◌+◌, ◌≤◌, ◌<◌, leb, ltb, eqb, length, get_or}
 use Rattle.std.proofs.Common.{sym, subst, arith, length-append, lt-ltb, le-ltb, le-leb, eq-eqb, ne_eqb}
-use Rattle.std.proofs.Math.Bool.{and_false}
+use Rattle.std.proofs.Math.Bool.{and-false}
 use Rattle.std.proofs.Math.Decide.{dec_lt}
 use Rattle.std.proofs.Math.ListN.{get_or-append}
 use Rattle.std.proofs.lemmas.Bool.{lt-leb}
@@ -89,7 +89,7 @@ leaf_after (Leaf.mark i) ms a b k h l = let e = h.1 in rw (lt-leb (mark_at ms i)
 
 leaf_before : (x : Leaf) (ms : List Marked) (a b k : ℕ) → LeafTiles x ms a b → b ≤ k → holds_token ms k x ≡ false
 leaf_before (Leaf.token i) ms a b k h l = let e = h.0 in let f = h.1 in ne_eqb i k (λ q. omega arith)
-leaf_before (Leaf.mark i) ms a b k h l = let e = h.2 in rw (le-ltb k (mark_at ms i).after (omega arith)) (and_false (leb (mark_at ms i).first k))
+leaf_before (Leaf.mark i) ms a b k h l = let e = h.2 in rw (le-ltb k (mark_at ms i).after (omega arith)) (and-false (leb (mark_at ms i).first k))
 
 leaf_inside : (x : Leaf) (ms : List Marked) (a b k : ℕ) → LeafTiles x ms a b → a ≤ k → k < b → holds_token ms k x ≡ true
 leaf_inside (Leaf.token i) ms a b k h l m = let e = h.0 in let f = h.1 in eq-eqb i k (omega arith)

@@ -1,5 +1,7 @@
 // The state of a run as numbers, beside the lent rooms: the types that the driver and its byte model share. See specs/. This crate
 // has no functions.
+#![tactic(auto)]
+
 use rules::{Answer, Formed};
 
 // Where a run stands: the rules' modes, and its end.

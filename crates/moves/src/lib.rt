@@ -1,5 +1,7 @@
 // What a look does to the numbers of a run: it is counted, it ends the run, it goes on in another mode, it reads a token.
 // Each function is the definition of the same name of the byte model. None writes to a room.
+#![tactic(auto)]
+
 ghost use Rattle.std.specs.Prelude.{List, ◌≡◌, ℕ, ◌+◌, ◌-◌, ◌<◌, ◌^◌, length};
 ghost use Rattle.rules.specs.Driving.{answer_of};
 ghost use Rattle.model.specs.Model.{Call, counted, ended, read_to, failing, searching, dropped, simulating, grown, judged, arrived, fail, drop_token, further};

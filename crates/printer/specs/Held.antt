@@ -5,7 +5,7 @@ use mathlib.Core.List.{List, [], ◌∷◌, ◌++◌, map, reverse_aux}
 use Rattle.std.proofs.Common.{ap, ◌∙◌, arith, length-append, to_z}
 use Prim.Native.Nat.{ℕ, zero, suc, ◌+◌, ◌*◌, ◌-◌, ◌/◌, ◌≤◌, ◌<◌, ◌^◌}
 use Rattle.std.proofs.Math.Decide.{dec_lt}
-use borrow.Author.Tests.{lt-ltb, le-ltb, ltb_true, leb_true}
+use borrow.Author.Tests.{lt-ltb, le-ltb, ltb-true, leb-true}
 use Rattle.std.proofs.Math.ListN.{length, drop}
 use Rattle.std.proofs.lemmas.List.{length-reverse, length-map}
 use Rattle.std.specs.Int.{w16}
@@ -335,7 +335,7 @@ module _ (J : Job) (N : Narrow J) where
   unfolding drop_token
   drop_held r f h k =
       pick_case (HeldO J) (has_token J r) _ _
-      (λ e. arrive_held (advanced r (Mode.search f 0)) (advanced_held J r h (Mode.search f 0) (ltb_true r.next (length J.tokens) e) k))
+      (λ e. arrive_held (advanced r (Mode.search f 0)) (advanced_held J r h (Mode.search f 0) (ltb-true r.next (length J.tokens) e) k))
       (λ e. h)
 
   further_held : (r : Run) (f : Formed) (k : ℕ) → Held J r → FormedFits f → HeldO J (further J r f k)
@@ -420,7 +420,7 @@ module _ (J : Job) (N : Narrow J) where
 
   look_held : (r : Run) (m : Mode) → Held J r → ModeFits m → HeldO J (look J r m)
   unfolding look
-  look_held r Mode.main h q = main_held r (has_token J r) _ h (λ e. ltb_true r.next (length J.tokens) e) (action_fits_law J.tables _ _)
+  look_held r Mode.main h q = main_held r (has_token J r) _ h (λ e. ltb-true r.next (length J.tokens) e) (action_fits_law J.tables _ _)
   look_held r (Mode.column f) h q = column_held r f _ h q (action_fits_law J.tables _ _)
   look_held r (Mode.search f k) h q = search_held r f k _ h q
   look_held r (Mode.simulate f k sim) h q = simulate_held r f k sim _ h q
@@ -482,9 +482,9 @@ narrow_job T ts origin L a c o n k m =
       ends = λ i. end_narrow ts i a;
       count = c;
       origin = o;
-      nodes = λ i e. let q : i ≤ L.nodes = leb_true i L.nodes e in omega arith;
-      children = λ i e. let q : i ≤ L.children = leb_true i L.children e in omega arith;
-      records = λ i e. let q : i ≤ L.records = leb_true i L.records e in omega arith;
+      nodes = λ i e. let q : i ≤ L.nodes = leb-true i L.nodes e in omega arith;
+      children = λ i e. let q : i ≤ L.children = leb-true i L.children e in omega arith;
+      records = λ i e. let q : i ≤ L.records = leb-true i L.records e in omega arith;
     }
 
 file_narrow : (s : List ℕ) (at n : ℕ) → Bytes s → AllNarrow (file_tokens s at n)

@@ -1,6 +1,6 @@
 -- The lines' texts from numbers and from the words that a call leaves, and the laws that their loops go by.
 use Rattle.std.specs.Prelude.{◌&&◌, List, [], ◌∷◌, ◌++◌, ◌≢◌, ◌≡◌, refl, ℕ, zero, suc, ◌+◌, ◌*◌, ◌-◌, ◌/◌, ◌%◌, ◌≤◌, ◌<◌, leb, eqb}
-use Rattle.std.proofs.Common.{append_assoc, append_nil, sym, arith, le-leb, ne_eqb}
+use Rattle.std.proofs.Common.{append_assoc, append-nil, sym, arith, le-leb, ne_eqb}
 use Rattle.std.proofs.lemmas.Bool.{lt-leb}
 use Rattle.words.specs.Words.{pick, word32}
 use Rattle.rules.specs.Basics.{text}
@@ -64,7 +64,7 @@ spaced_append (x ∷ xs) ys = rw (spaced_append xs ys) (sym (append_assoc (space
 
 pub spaced_one : (n : ℕ) → spaced_all (n ∷ []) ≡ spaced n
 unfolding spaced_all
-spaced_one n = append_nil (spaced n)
+spaced_one n = append-nil (spaced n)
 
 pub kind_set : (w k : ℕ) → w % 2 ≡ 1 → kind_text w k ≡ spaced k
 unfolding kind_text

@@ -2,7 +2,7 @@
 use Rattle.std.specs.Prelude.{List, [], ◌∷◌, ◌++◌, ◌≡◌, refl, ℕ, suc, ◌+◌, ◌≤◌, ◌<◌, ltb, length, get_or, set, take, drop}
 use Rattle.std.proofs.Common.{sym, ap, ◌∙◌, zero-add, add-one, arith, lt-ltb, le-ltb, length-set, drop_of_length-le, drop-cons}
 use Rattle.std.proofs.Math.Decide.{dec_lt}
-use Rattle.std.proofs.lemmas.List.Edits.{sets, sets_eq}
+use Rattle.std.proofs.lemmas.List.Edits.{sets, sets-eq}
 use Rattle.std.proofs.Math.Seq.{set_out, take-append_seam}
 use Rattle.words.specs.Words.{pick}
 
@@ -128,5 +128,5 @@ wrote_whole {b} {t} {b'} {r} w h =
     let p : behind (length b) 0 t < length b = rw (← w.place) h in
     let e : r ≡ length t = w.place ∙ behind_in (length b) 0 t p ∙ zero-add (length t) in
     let f : 0 + length t ≤ length b = omega arith in
-    let s : b' ≡ take 0 b ++ t ++ drop (0 + length t) b = w.bytes ∙ written_sets b 0 t f ∙ sets_eq t b 0 f in
+    let s : b' ≡ take 0 b ++ t ++ drop (0 + length t) b = w.bytes ∙ written_sets b 0 t f ∙ sets-eq t b 0 f in
     rw (s, e) (take-append_seam t (drop (0 + length t) b))

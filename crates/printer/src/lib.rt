@@ -1,5 +1,7 @@
 // The program's lines, written into a lent buffer. Every function writes its text from a place on and returns the place behind it;
 // what the buffer has no room for is left out, and the place stays at its end.
+#![tactic(auto)]
+
 ghost use Rattle.std.specs.Prelude.{List, [], ◌∷◌, ◌++◌, ◌≡◌, ◌+◌, ◌*◌, ◌<◌, ◌^◌};
 ghost use Rattle.rules.specs.File.{digits_of, spaced, spaced_all, kinds_in, refused_line};
 ghost use Rattle.printer.specs.Writing.{Wrote};

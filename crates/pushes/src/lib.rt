@@ -1,5 +1,7 @@
 // Shift and reduce: the entry goes on the stack, with its node and its child entries, if the rooms have place for them.
 // Each function is the definition of the same name of the byte model. A step that a limit stops writes nothing.
+#![tactic(auto)]
+
 ghost use Rattle.std.specs.Prelude.{List, ◌≡◌, ℕ, ◌+◌, ◌*◌, ◌-◌, ◌≤◌, ◌<◌, ◌^◌, min, eqb, length};
 ghost use Rattle.words.specs.Words.{pick};
 ghost use Rattle.rules.specs.Tables.{target, goto, left};

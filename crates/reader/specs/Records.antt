@@ -2,7 +2,7 @@
 -- with as much fuel as there are bytes left.
 use Rattle.std.specs.Prelude.{Bool, true, false, ◌&&◌, ◌||◌, List, [], ◌∷◌, ◌++◌, ◌≡◌, refl, ℕ, zero, suc, ◌+◌, ◌-◌, ◌≤◌, ◌<◌, leb, ltb, eqb, length}
 use Rattle.std.proofs.Math.Path.{sym, ap}
-use Rattle.std.proofs.Common.{subst, ◌∙◌, arith, ltb_true, ltb-false, eqb-true, le-leb}
+use Rattle.std.proofs.Common.{subst, ◌∙◌, arith, ltb-true, ltb-false, eqb-true, le-leb}
 use Rattle.std.proofs.lemmas.Bool.{lt-leb}
 use Rattle.std.proofs.Math.ListN.{take}
 use Rattle.words.specs.Words.{pick, get16, get32}
@@ -58,7 +58,7 @@ sure s at want =
     (λ e. pick_case P (is_cut s at) _ _ (λ k. tt)
     (λ k. pick_case P (leb 32768 kind) _ _ (λ h. (refl, whole s at k))
     (λ h. pick_case P (eqb kind want && ltb want 9) _ _
-    (λ w. pick_case P (length_fits want size) _ _ (λ f. (refl, whole s at k, ltb_true want 9 (and_right (eqb kind want) (ltb want 9) w))) (λ f. tt))
+    (λ w. pick_case P (length_fits want size) _ _ (λ f. (refl, whole s at k, ltb-true want 9 (and_right (eqb kind want) (ltb want 9) w))) (λ f. tt))
     (λ w. tt))))
 
 -- from a place on, with as much fuel as there are bytes left

@@ -1,6 +1,6 @@
 -- A file's tokens in the form of a call: 10 bytes each become 12, three 32-bit words.
 use Rattle.std.specs.Prelude.{List, [], ◌∷◌, ◌++◌, Bool, true, false, ◌&&◌, ◌≡◌, refl, ℕ, zero, suc, ◌+◌, ◌*◌, ◌/◌, ◌%◌, ◌≤◌, ◌<◌, ◌^◌, leb, length, get_or, take, drop}
-use Rattle.std.proofs.Common.{append_assoc, append_nil, sym, ap, ◌∙◌, add-one, arith, le-leb, length-append, length-drop, drop-drop, take_at}
+use Rattle.std.proofs.Common.{append_assoc, append-nil, sym, ap, ◌∙◌, add-one, arith, le-leb, length-append, length-drop, drop-drop, take_at}
 use Rattle.words.specs.Words.{pick, le4, get16, get32, put32, word32}
 use Rattle.words.specs.Laws.{Bytes, length_le4, put32_end, get32_append, get16_lt, get32_lt, word32_in, pick_leb}
 use Rattle.rules.specs.declared.Token.{Token}
@@ -74,7 +74,7 @@ put_three s pre rest at a b c e p h =
     let one : put32 s at a ≡ (pre ++ le4 a) ++ drop 4 rest = put32_end s pre rest at a e p (omega arith) in
     let two : put32 (put32 s at a) (at + 4) b ≡ ((pre ++ le4 a) ++ le4 b) ++ drop 4 (drop 4 rest) = put32_end (put32 s at a) (pre ++ le4 a) (drop 4 rest) (at + 4) b one (simp (length-append, length_le4) (omega arith)) (simp length-drop (omega arith)) in
     let three : put32 (put32 (put32 s at a) (at + 4) b) (at + 8) c ≡ (((pre ++ le4 a) ++ le4 b) ++ le4 c) ++ drop 4 (drop 4 (drop 4 rest)) = put32_end (put32 (put32 s at a) (at + 4) b) ((pre ++ le4 a) ++ le4 b) (drop 4 (drop 4 rest)) (at + 8) c two (simp (length-append, length_le4) (omega arith)) (simp length-drop (omega arith)) in
-    three ∙ simp (drop-drop, append_assoc, append_nil)
+    three ∙ simp (drop-drop, append_assoc, append-nil)
 
 pub widen_step : (s entry out : List ℕ) (i : ℕ) → 12 * i + 12 ≤ length entry → out ≡ call_bytes (file_tokens s 0 i) ++ drop (12 * i) entry → widen_token s (10 * i) out (12 * i) ≡ call_bytes (file_tokens s 0 (i + 1)) ++ drop (12 * (i + 1)) entry
 unfolding widen_token call_bytes

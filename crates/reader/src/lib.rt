@@ -1,5 +1,7 @@
 // "The file": from the bytes of a file to the places of its eight payloads, or its refusal 30 to 33 with its place. Payloads are
 // handed on as parts of the input; nothing is copied.
+#![tactic(auto)]
+
 ghost use Rattle.std.specs.Prelude.{◌≡◌, ◌+◌, ◌≤◌, ◌<◌, length};
 ghost use Rattle.rules.specs.File.{is_cut, file_of};
 ghost use Rattle.reader.specs.Reading.{class_of, fitted_of, ended_of, seen_of, seen_at, with_payload, filed_of, no_payloads};

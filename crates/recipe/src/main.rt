@@ -1,5 +1,7 @@
 // Reads a file of tables and tokens from standard input and prints what document 01 says of it: a refusal's line, or an answer with its
 // units, its tree and its marks. What is printed is the library's (`answering::fill`); here is only what reads, calls and writes.
+#![tactic(auto)]
+
 use libc::{STDERR_FILENO, STDIN_FILENO, STDOUT_FILENO};
 
 // "A program reads standard input, at most 65,536 bytes": one byte more is read, so that a longer file is seen to be one.

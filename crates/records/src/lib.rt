@@ -1,6 +1,8 @@
 // Expected kinds as bit words, their count as the number of ones, and the record of a mark, which holds both.
 // "Record, 16 words: error 3 or 4, token or location, stretch first, stretch after-last, dropped first (after-last if none), start,
 // end, expected count as the number of ones, 8 words of expected bits (kind k at bit k mod 32 of word k/32)."
+#![tactic(auto)]
+
 ghost use Rattle.std.specs.Prelude.{◌≡◌, not, ◌∷◌, [], ◌+◌, ◌*◌, ◌≤◌, ◌<◌, ◌^◌, length};
 ghost use Rattle.std.specs.Int.Count.{ones};
 ghost use Rattle.words.specs.Words.{pick};

@@ -1,5 +1,7 @@
 // Error recovery: the simulated stack (`accepts` of the Rust), and the mark that is put where the search ended.
 // Each function is the definition of the same name of the byte model.
+#![tactic(auto)]
+
 ghost use Rattle.std.specs.Prelude.{List, ◌≡◌, ℕ, ◌+◌, ◌*◌, ◌-◌, ◌≤◌, ◌<◌, ◌^◌, eqb, length};
 ghost use Rattle.words.specs.Words.{pick};
 ghost use Rattle.rules.specs.Tables.{target, action, error_column};

@@ -1,7 +1,7 @@
 -- What fits a word, and lists of words that all do: the bytes of such a list give each of its words back.
 -- Nodes and records as lists of words; the words of a record's expected kinds fit by themselves.
 use Rattle.std.specs.Prelude.{◌≡◌, refl, Bool, true, false, List, [], ◌∷◌, ◌++◌, ℕ, zero, suc, ◌+◌, ◌*◌, ◌<◌, ◌≤◌, ◌^◌, length, get_or}
-use Rattle.std.proofs.Common.{sym, append_assoc, append_nil, pow-suc, arith, length-append, get_or-append-add}
+use Rattle.std.proofs.Common.{sym, append_assoc, append-nil, pow-suc, arith, length-append, get_or-append-add}
 use Rattle.std.proofs.lemmas.Nat.{ones-le}
 use Rattle.std.proofs.Math.ListN.{get_or-append}
 use Rattle.words.specs.Words.{pick, get32, le4}
@@ -31,7 +31,7 @@ module _ {A : Type 0} (words : A → List ℕ) where
   words_of (a ∷ l) = words a ++ words_of l
 
   pub words_of_snoc : (l : List A) (a : A) → words_of (l ++ (a ∷ [])) ≡ words_of l ++ words a
-  words_of_snoc [] a = append_nil (words a)
+  words_of_snoc [] a = append-nil (words a)
   words_of_snoc (c ∷ l) a = rw (words_of_snoc l a) (sym (append_assoc (words c) (words_of l) (words a)))
 
   module _ (width : ℕ) (wide : (a : A) → length (words a) ≡ width) where

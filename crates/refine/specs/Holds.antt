@@ -1,7 +1,7 @@
 -- What it is for a world of the model to hold a run of the rules: rooms hold the lists, and the state is their counts.
 -- An outcome and a world are related where both go on so, or both have ended with one answer.
 use Rattle.std.specs.Prelude.{◌≡◌, refl, Bool, true, false, List, [], ◌∷◌, ◌++◌, ℕ, zero, suc, ◌+◌, ◌-◌, ◌≤◌, leb, length}
-use Rattle.std.proofs.Common.{leb_true}
+use Rattle.std.proofs.Common.{leb-true}
 use Rattle.rules.specs.declared.Entry.{Entry}
 use Rattle.rules.specs.declared.Formed.{Formed}
 use Rattle.rules.specs.declared.Answer.{Answer}
@@ -120,4 +120,4 @@ module _ {C : Call} {b x : Rooms} {u : ℕ} {r : Run} (a : Beside) (K : Kept C b
   need_by false answer f = stopped answer
 
   pub need_fits : (n m n' m' : ℕ) (answer : Answer) {o : Outcome} {w : World} → n' ≡ n → m' ≡ m → (n ≤ m → Related C b u o w) → Related C b u (Driving.need (leb n m) answer r o) (Model.need (leb n' m') answer (world_at x (st_of r a)) w)
-  need_fits n m n' m' answer p q f = rw (p, q) (need_by (leb n m) answer (λ e. f (leb_true n m e)))
+  need_fits n m n' m' answer p q f = rw (p, q) (need_by (leb n m) answer (λ e. f (leb-true n m e)))

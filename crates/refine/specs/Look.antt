@@ -4,7 +4,7 @@ use Rattle.std.specs.Prelude.{◌≡◌, refl, Bool, ltb, eqb, length}
 use Rattle.std.proofs.Math.Bool.{true, false}
 use Prim.Native.Nat.{ℕ, zero, suc, ◌+◌, ◌<◌}
 use native.Mathlib.Omega.{arith}
-use borrow.Author.Tests.{ltb_true}
+use borrow.Author.Tests.{ltb-true}
 use Rattle.words.specs.Words.{pick}
 use Rattle.rules.specs.declared.Cell.{Cell}
 use Rattle.rules.specs.declared.Cell.TheVariants.{Shift, Reduce, Error}
@@ -71,7 +71,7 @@ module _ {C : Call} {b x : Rooms} {u : ℕ} {r : Run} (K : Kept C b u r x) where
     unfolding Driving.drop_token Model.drop_token
     drop_token_holds =
         rw (length_tokens F, top_at_law r.stack x.stack K.stack)
-        (drop_by (ltb r.next C.count) (λ e. ltb_true r.next C.count e))
+        (drop_by (ltb r.next C.count) (λ e. ltb-true r.next C.count e))
 
     further_by : (t : Bool) → (t ≡ true → A.popped < length r.stack) → Related C b u (pick t (more (Driving.in_mode r (search A.formed (A.popped + 1)))) (Driving.drop_token (job_for C b) r A.formed)) (pick t (world_at x (Model.searching (st_of r A) (A.popped + 1))) (Model.drop_token C (world_at x (st_of r A))))
     further_by true h = let k = h refl in turns A (search A.formed (A.popped + 1)) (w, omega arith)
@@ -80,7 +80,7 @@ module _ {C : Call} {b x : Rooms} {u : ℕ} {r : Run} (K : Kept C b u r x) where
     pub further_holds : Related C b u (Driving.further (job_for C b) r A.formed A.popped) (Model.further C (world_at x (st_of r A)))
     unfolding Driving.further Model.further
     further_holds =
-        further_by (ltb A.popped (length r.stack)) (λ e. ltb_true A.popped (length r.stack) e)
+        further_by (ltb A.popped (length r.stack)) (λ e. ltb-true A.popped (length r.stack) e)
 
 -- ---- the main loop and the error column
 

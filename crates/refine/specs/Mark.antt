@@ -2,7 +2,7 @@
 -- No depth is tested here: the simulation that found the place was as deep.
 use Rattle.std.specs.Prelude.{◌≡◌, ltb}
 use Rattle.std.proofs.Math.Path.{refl, ap}
-use mathlib.Core.List.{List, [], ◌∷◌, ◌++◌, append_nil}
+use mathlib.Core.List.{List, [], ◌∷◌, ◌++◌, append-nil}
 use Prim.Native.Nat.{ℕ, ◌+◌, ◌*◌, ◌-◌, ◌/◌, ◌<◌, ◌≤◌}
 use native.Mathlib.Omega.{arith}
 use Rattle.std.proofs.Math.ListN.{length, take, drop, length-take, length-drop, take-append-drop}
@@ -129,7 +129,7 @@ module _ {C : Call} {b : Rooms} {u : ℕ} (F : Fit C b) {x : Rooms} {r : Run} (K
     marked_holds w room small d n m =
         let M : Marked = Driving.marked (job_for C b) r A.formed popped rest in
         let e : Entry = Driving.mark_entry (job_for C b) r M rest in
-        let ch = rw (← append_nil r.children) at K.children in
+        let ch = rw (← append-nil r.children) at K.children in
         let k' : 0 + length rest ≤ length r.stack = rw (l, length-append) (omega arith) in
         let re = records_more M e refl refl refl refl m in
         let K' = grow_kept F K rest e [] (M ∷ []) main x.children _ (stack_below popped rest x.stack H) (mark_small w (omega arith)) d n room small k' (omega arith) tt (rw words_of_snoc (fitting_append (words_of (record_words C.tables) r.marks) (record_words C.tables M) K.sized.records_fit_law (record_fits w))) ch re in

@@ -1,7 +1,7 @@
 -- Stores of whole words as one store of their bytes: a store behind what is written appends, and a load finds the word stored.
 -- Each of `put8`, `put_entry`, `put_node` and `put_record` is such a store, so that these laws are all that is needed of them.
 use Rattle.std.specs.Prelude.{◌≡◌, refl, List, [], ◌∷◌, ◌++◌, ℕ, zero, suc, ◌+◌, ◌*◌, ◌<◌, ◌≤◌, ◌^◌, length, get_or, set, drop}
-use Rattle.std.proofs.Common.{sym, ap, ◌∙◌, inl, append_assoc, append_nil, add-zero, arith, length-append, length-drop, drop-drop}
+use Rattle.std.proofs.Common.{sym, ap, ◌∙◌, inl, append_assoc, append-nil, add-zero, arith, length-append, length-drop, drop-drop}
 use Rattle.std.proofs.lemmas.List.Edits.{sets}
 use Rattle.std.proofs.Math.Seq.{length-sets}
 use Rattle.words.specs.Words.{get32, put32, le4}
@@ -31,7 +31,7 @@ sets_append (u ∷ us) vs s at =
 
 put32_bytes : (s : List ℕ) (at v : ℕ) → put32 s at v ≡ sets s at (bytes_of (v ∷ []))
 unfolding bytes_of
-put32_bytes s at v = rw (append_nil (le4 v)) (put32_sets s at v)
+put32_bytes s at v = rw (append-nil (le4 v)) (put32_sets s at v)
 
 -- words behind words
 pub sets_words : (s us vs : List ℕ) (at to : ℕ) → to ≡ at + 4 * length us → sets (sets s at (bytes_of us)) to (bytes_of vs) ≡ sets s at (bytes_of (us ++ vs))

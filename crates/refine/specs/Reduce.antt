@@ -2,7 +2,7 @@
 -- A popped part and a rest stand for `take` and `drop`, so that nothing here speaks of the production's length.
 use Rattle.std.specs.Prelude.{◌≡◌, ltb}
 use Rattle.std.proofs.Math.Path.{refl, sym, ap}
-use mathlib.Core.List.{List, [], ◌++◌, append_nil}
+use mathlib.Core.List.{List, [], ◌++◌, append-nil}
 use Prim.Native.Nat.{ℕ, ◌+◌, ◌*◌, ◌-◌, ◌/◌, ◌<◌, ◌≤◌, min}
 use Rattle.std.proofs.Common.{arith, length-take, length-append}
 use Rattle.std.proofs.Math.ListN.{length, take, drop, length-drop, take-append-drop}
@@ -101,9 +101,9 @@ module _ {C : Call} {b : Rooms} {u : ℕ} (F : Fit C b) {x : Rooms} {r : Run} (a
   shifted_holds to s t d n =
       let e : Entry = Model.token_entry C (st_of r (beside_of main a)) to in
       let G : Run = grow r r.stack e [] [] main in
-      let ch = rw (← append_nil r.children) at K.children in
-      let re = rw (← append_nil r.marks) at K.records in
-      let K' = grow_kept F K r.stack e [] [] main x.children x.records K.stack (token_small to s) d n room small (omega arith) (omega arith) tt (rw append_nil K.sized.records_fit_law) ch re in
+      let ch = rw (← append-nil r.children) at K.children in
+      let re = rw (← append-nil r.marks) at K.records in
+      let K' = grow_kept F K r.stack e [] [] main x.children x.records K.stack (token_small to s) d n room small (omega arith) (omega arith) tt (rw append-nil K.sized.records_fit_law) ch re in
       rw (token_entry_law F K (beside_of main a) to, grown_is r (beside_of main a) r.stack e [] [] (r.next + 1) main Main)
       (arrive_holds (Driving.advanced G main) a (kept_advanced K' main t) tt F to.0 refl)
 
@@ -125,8 +125,8 @@ module _ {C : Call} {b : Rooms} {u : ℕ} (F : Fit C b) {x : Rooms} {r : Run} (a
       let q : length kids ≡ length popped = length_nodes_of popped in
       let k : length kids + length rest ≤ length r.stack = rw (q, l, length-append) (omega arith) in
       let ch = children_more K kids (rw q c) in
-      let re = rw (← append_nil r.marks) at K.records in
-      let K' = grow_kept F K rest e kids [] m _ x.records (stack_below popped rest x.stack H) (production_small F K popped rest H l p pf (omega arith)) d n room small k (omega arith) (nodes_fit_law popped rest x.stack H) (rw append_nil K.sized.records_fit_law) ch re in
+      let re = rw (← append-nil r.marks) at K.records in
+      let K' = grow_kept F K rest e kids [] m _ x.records (stack_below popped rest x.stack H) (production_small F K popped rest H l p pf (omega arith)) d n room small k (omega arith) (nodes_fit_law popped rest x.stack H) (rw append-nil K.sized.records_fit_law) ch re in
       rw (production_entry_law F K popped rest H l (beside_of m a) p, copy_words popped rest x.stack x.children (length r.children) H, ← q, child_of_law, grown_is r (beside_of m a) rest e kids [] r.next m (beside_of m a).mode)
       (goes (record { rooms = _; beside = a; is = refl; kept = K'; mode = M _ _ }))
 

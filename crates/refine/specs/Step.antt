@@ -6,7 +6,7 @@ use Rattle.std.proofs.Common.{◌∙◌, arith}
 use mathlib.Core.List.{List, ◌++◌}
 use Prim.Native.Nat.{ℕ, zero, suc, ◌+◌, ◌-◌, ◌<◌, ◌≤◌}
 use Rattle.std.proofs.Math.ListN.{length, drop, length-drop, length-map}
-use borrow.Author.Tests.{ltb_true}
+use borrow.Author.Tests.{ltb-true}
 use Rattle.rules.specs.declared.Cell.{Cell}
 use Rattle.rules.specs.declared.Cell.TheVariants.{Shift, Reduce, Error}
 use Rattle.rules.specs.declared.Entry.{Entry}
@@ -80,7 +80,7 @@ module _ {C : Call} {b : Rooms} {u : ℕ} (F : Fit C b) {x : Rooms} {r : Run} (a
   unfolding Driving.look Model.look
   look_holds main M =
       rw (top_at_law r.stack x.stack K.stack, look_column_law (beside_of main a), length_tokens F)
-      (main_look_holds F a K room small (ltb r.next C.count) (action C.tables (top_state r.stack) (Driving.look_column (job_for C b) r)) (λ e. ltb_true r.next C.count e) (action_fits_law C.tables (top_state r.stack) (Driving.look_column (job_for C b) r)))
+      (main_look_holds F a K room small (ltb r.next C.count) (action C.tables (top_state r.stack) (Driving.look_column (job_for C b) r)) (λ e. ltb-true r.next C.count e) (action_fits_law C.tables (top_state r.stack) (Driving.look_column (job_for C b) r)))
   look_holds (column f) M =
       rw (top_at_law r.stack x.stack K.stack)
       (column_look_holds F a K room small f (action C.tables (top_state r.stack) (error_column C.tables)) M (action_fits_law C.tables (top_state r.stack) (error_column C.tables)))

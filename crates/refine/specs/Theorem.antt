@@ -1,7 +1,7 @@
 -- What the code's proof takes from here: for every call that refusal 18 lets through, and every budget below 2 ^ 32, the byte
 -- model leaves the answer, the counts and the rooms that the rules say. The bytes of stack and scratch are exempt.
 use Rattle.std.specs.Prelude.{◌≡◌, refl, Bool, true, false, ◌&&◌, List, ℕ, ◌*◌, ◌/◌, ◌%◌, min, leb, eqb, length}
-use Rattle.std.proofs.Common.{arith, leb_true, eqb-true}
+use Rattle.std.proofs.Common.{arith, leb-true, eqb-true}
 use Rattle.words.specs.Words.{word32}
 use Rattle.words.specs.Laws.{Bytes}
 use Rattle.rules.specs.declared.Answer.{Answer}
@@ -47,7 +47,7 @@ unfolding ok18
 call_fits T s origin b ok bytes o =
     let both = and_left (eqb (length s % 12) 0 && leb (length s / 12) 4096) (all_below (length s / 12) (λ i. leb (word32 s (12 * i)) 65535)) ok in
     let whole = eqb-true (length s % 12) 0 (and_left (eqb (length s % 12) 0) (leb (length s / 12) 4096) both) in
-    let few = leb_true (length s / 12) 4096 (and_right (eqb (length s % 12) 0) (leb (length s / 12) 4096) both) in
+    let few = leb-true (length s / 12) 4096 (and_right (eqb (length s % 12) 0) (leb (length s / 12) 4096) both) in
     record { count = refl; whole = omega arith; few = few; bytes = bytes; origin = o; stack = omega arith; scratch = omega arith }
 
 -- the run of the rules always ends, and what the model leaves is what it says

@@ -1,7 +1,7 @@
 -- The words of a report, from an answer and the four counts: the rules' `report_words`, where the counts are a run's.
 use Rattle.std.specs.Prelude.{List, ◌∷◌, [], ◌++◌, ◌≡◌, refl, ℕ, ◌+◌, ◌≤◌, length, get_or}
-use Rattle.std.proofs.Common.{append_nil, ap, ◌∙◌, arith, drop_of_length-le}
-use Rattle.std.proofs.lemmas.List.Edits.{sets_eq}
+use Rattle.std.proofs.Common.{append-nil, ap, ◌∙◌, arith, drop_of_length-le}
+use Rattle.std.proofs.lemmas.List.Edits.{sets-eq}
 use Rattle.rules.specs.declared.Answer.{Answer}
 use Rattle.rules.specs.declared.Answer.TheVariants.{Accepted, AcceptedEarly, UnrecognizedToken, UnrecognizedEnd, ExtraToken, TokenizerError, OutOfUnits, OutOfDepth, OutOfChildren, OutOfNodes, OutOfRecords}
 use Rattle.rules.specs.Tables.{Tables}
@@ -26,9 +26,9 @@ two_halves s z a b c d e f g h i j k l m n o p =
       put8_words (put8 s 0 a b c d e f g h) 32 i j k l m n o p,
       put8_words s 0 a b c d e f g h,
       sets_words s us vs 0 32 (omega arith),
-      sets_eq (bytes_of (us ++ vs)) s 0 fits,
+      sets-eq (bytes_of (us ++ vs)) s 0 fits,
       drop_of_length-le s past,
-      append_nil (bytes_of (us ++ vs)),
+      append-nil (bytes_of (us ++ vs)),
     )
 
 -- a list of eight words is its eight words

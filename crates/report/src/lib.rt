@@ -1,5 +1,7 @@
 // The report of an answer, and the numbers that a call returns for it.
 // "The definition gives this paper's number and values for each of the enum's cases": each function here is one of these definitions.
+#![tactic(auto)]
+
 ghost use Rattle.std.specs.Prelude.{◌≡◌, ◌+◌, ◌<◌, ◌^◌, length};
 ghost use Rattle.rules.specs.Tables.{Tables};
 ghost use Rattle.rules.specs.Answers.{number_of, roots_of, places_of, expected_of, first_of, value_of, bytes_of};

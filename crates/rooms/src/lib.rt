@@ -1,5 +1,7 @@
 // The lent rooms, written and read: each function is the definition of the same name of the byte model, on the bytes of one room.
 // A room is written by whole entries, and read at whole entries, so that its place inside the room is the only thing asked.
+#![tactic(auto)]
+
 ghost use Rattle.std.specs.Prelude.{◌≡◌, ◌+◌, ◌*◌, ◌-◌, ◌≤◌, ◌<◌, ◌^◌, length};
 ghost use Rattle.words.specs.Words.{word32};
 ghost use Rattle.rules.specs.Answers.{kind_of, which_of};

@@ -1,4 +1,6 @@
 // The types that contracts and definitions share. Document 01 itself is in specs/: this crate has no functions.
+#![tactic(auto)]
+
 
 // "A state number and a production number are two kinds and may not be mixed." Both are wide enough for every cell width.
 #[derive(Drop)]

@@ -1,7 +1,7 @@
 -- 10 over the slices and the sizes: its parts, and that together they are `ok10` of the rules. It asks nothing of the bytes:
 -- right sides are added up only after each was found short, and then their sum is small.
 use Rattle.std.specs.Prelude.{Bool, true, false, ◌&&◌, ◌||◌, not, List, ◌≡◌, refl, ℕ, zero, suc, ◌+◌, ◌*◌, ◌≤◌, leb, eqb, length, get_or}
-use Rattle.std.proofs.Common.{arith, leb_true}
+use Rattle.std.proofs.Common.{arith, leb-true}
 use Rattle.words.specs.Words.{word16}
 use Rattle.rules.specs.Basics.{all_below, between}
 use Rattle.rules.specs.Tables.{Tables, states, kinds, nonterminals, production_count, item_count, flag, size, nullable_byte, in_set}
@@ -54,7 +54,7 @@ pub starts_early : (productions : List ℕ) (n : ℕ) → all_below n (short_at 
 unfolding all_below short_at start_in
 starts_early productions zero e = omega arith
 starts_early productions (suc n) e =
-    let h : word16 productions (4 * n + 2) ≤ 32 = leb_true _ _ (and_right (all_below n (short_at productions)) (short_at productions n) e) in
+    let h : word16 productions (4 * n + 2) ≤ 32 = leb-true _ _ (and_right (all_below n (short_at productions)) (short_at productions n) e) in
     let r : start_in productions n ≤ 32 * n = starts_early productions n (and_left (all_below n (short_at productions)) (short_at productions n) e) in
     omega arith
 

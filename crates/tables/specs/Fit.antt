@@ -2,7 +2,7 @@
 -- `fit` has it from 10's test, so that the tests behind 10 may ask for it.
 use Rattle.std.specs.Prelude.{Bool, true, false, ◌&&◌, ◌≡◌, refl, ℕ, zero, suc, ◌*◌, ◌<◌, ◌≤◌, leb, eqb, length}
 use Rattle.std.proofs.Math.Decide.{dec_lt}
-use Rattle.std.proofs.Common.{arith, leb_true, eqb-true}
+use Rattle.std.proofs.Common.{arith, leb-true, eqb-true}
 use Rattle.rules.specs.Basics.{all_below, between}
 use Rattle.rules.specs.Tables.{Tables, states, kinds, nonterminals, production_count, item_count, flag, columns, size, right_start}
 use Rattle.rules.specs.Check.{sizes_fit, lengths_agree, set_fits, ok10}
@@ -70,10 +70,10 @@ module _ (a b c d : Bool) where
       (r.0, r.1, r.2, r.3, r.4, r.5, and_right (a && b && c && d && e && f) g h)
 
 between_low : (lo hi n : ℕ) → between lo hi n ≡ true → lo ≤ n
-between_low lo hi n e = leb_true lo n (and_left (leb lo n) (leb n hi) e)
+between_low lo hi n e = leb-true lo n (and_left (leb lo n) (leb n hi) e)
 
 between_high : (lo hi n : ℕ) → between lo hi n ≡ true → n ≤ hi
-between_high lo hi n e = leb_true n hi (and_right (leb lo n) (leb n hi) e)
+between_high lo hi n e = leb-true n hi (and_right (leb lo n) (leb n hi) e)
 
 pub fit : (T : Tables) (place : ℕ) → ok10 T place ≡ true → Fit T
 unfolding ok10 sizes_fit lengths_agree
@@ -91,12 +91,12 @@ fit T place e =
       nonterminals_few = between_high 1 255 _ n.2;
       productions_some = between_low 1 1024 _ n.3;
       productions_few = between_high 1 1024 _ n.3;
-      items_few = leb_true _ _ n.4;
-      flag_few = leb_true _ _ n.5;
+      items_few = leb-true _ _ n.4;
+      flag_few = leb-true _ _ n.5;
       actions = eqb-true _ _ l.0;
       gotos = eqb-true _ _ l.1;
       productions = eqb-true _ _ l.2;
-      short = λ p h. leb_true _ _ (below_at (λ p. leb (size T p) 32) (production_count T) p l.3 h);
+      short = λ p h. leb-true _ _ (below_at (λ p. leb (size T p) 32) (production_count T) p l.3 h);
       rights = eqb-true _ _ l.4;
       items = eqb-true _ _ l.5;
       sets = eqb-true _ _ l.6;

@@ -1,5 +1,7 @@
 // The tables of a call, read from the bytes of its slices. Every reader is total: a place outside its table is an error cell, a
 // missing goto, or 0, as the rules have it.
+#![tactic(auto)]
+
 ghost use Rattle.std.specs.Prelude.{◌≡◌, ◌+◌, ◌*◌, ◌/◌, ◌%◌, ◌<◌, ◌^◌, get_or};
 ghost use Rattle.words.specs.Words.{word16};
 ghost use Rattle.rules.specs.Tables.{cell_at};

@@ -2,9 +2,9 @@
 -- Each is proved once, for a list of bytes of any length (`gets` reads, `sets` writes); that of 16 and of 32 bits is an instance.
 -- Assumes nothing.
 use Rattle.std.specs.Prelude.{◌≡◌, refl, ◌⊎◌, Bool, true, false, List, [], ◌∷◌, ◌++◌, ℕ, zero, suc, ◌+◌, ◌*◌, ◌/◌, ◌%◌, ◌^◌, ◌≤◌, ◌<◌, length, get_or, set, take, drop, ltb, leb, eqb}
-use Rattle.std.proofs.Common.{ap, ◌∙◌, inl, inr, pow-suc, div-lt_iff_lt-mul, add-one, arith, length-set, length-append, get_or-set_same, get_or-set_other, le-leb, ltb_true, ltb-false, leb_true, leb-false, eqb-true}
+use Rattle.std.proofs.Common.{ap, ◌∙◌, inl, inr, pow-suc, div-lt_iff_lt-mul, add-one, arith, length-set, length-append, get_or-set_same, get_or-set_other, le-leb, ltb-true, ltb-false, leb-true, leb-false, eqb-true}
 use Rattle.std.proofs.Math.Nat.{pow-succ', mod-add-div, div-div-eq-div-mul}
-use Rattle.std.proofs.lemmas.List.Edits.{sets, sets_eq}
+use Rattle.std.proofs.lemmas.List.Edits.{sets, sets-eq}
 use Rattle.std.proofs.Math.Seq.{length-sets, take-append_seam, drop-append-add, drop-append_seam}
 use Rattle.std.proofs.lemmas.Bool.{lt-leb, eqb-false}
 use Rattle.words.specs.Words.{pick, le2, le4, get16, get32, put16, put32, word16, word32}
@@ -77,7 +77,7 @@ gets_sets_other (suc n) vs s at i (inr h) =
 pub sets_end : (vs pre rest : List ℕ) → length vs ≤ length rest → sets (pre ++ rest) (length pre) vs ≡ (pre ++ vs) ++ drop (length vs) rest
 sets_end vs pre rest h =
     let r : length pre + length vs ≤ length (pre ++ rest) = simp length-append (omega arith) in
-    rw (sets_eq vs (pre ++ rest) (length pre) r, take-append_seam, drop-append-add)
+    rw (sets-eq vs (pre ++ rest) (length pre) r, take-append_seam, drop-append-add)
 
 -- bytes that stand somewhere are read there
 pub gets_append : (vs pre post : List ℕ) → gets (pre ++ vs ++ post) (length pre) (length vs) ≡ vs
@@ -166,11 +166,11 @@ get32_put32_other s at v i h = simp (get32_gets, put32_sets) (ap value (gets_set
 -- a write, as a cut and a paste
 pub put16_eq : (s : List ℕ) (at v : ℕ) → at + 2 ≤ length s → put16 s at v ≡ take at s ++ le2 v ++ drop (at + 2) s
 unfolding le2
-put16_eq s at v h = rw put16_sets (sets_eq (le2 v) s at h)
+put16_eq s at v h = rw put16_sets (sets-eq (le2 v) s at h)
 
 pub put32_eq : (s : List ℕ) (at v : ℕ) → at + 4 ≤ length s → put32 s at v ≡ take at s ++ le4 v ++ drop (at + 4) s
 unfolding le4
-put32_eq s at v h = rw put32_sets (sets_eq (le4 v) s at h)
+put32_eq s at v h = rw put32_sets (sets-eq (le4 v) s at h)
 
 pub put16_end : (s pre rest : List ℕ) (at v : ℕ) → s ≡ pre ++ rest → at ≡ length pre → 2 ≤ length rest → put16 s at v ≡ (pre ++ le2 v) ++ drop 2 rest
 unfolding le2
@@ -221,10 +221,10 @@ pick_case P false x y f g = g refl
 
 module _ {A : Type 0} (P : A → Type 0) (a b : ℕ) (x y : A) where
   pub pick_leb : (a ≤ b → P x) → (b < a → P y) → P (pick (leb a b) x y)
-  pick_leb f g = pick_case P (leb a b) x y (λ e. f (leb_true a b e)) (λ e. g (leb-false a b e))
+  pick_leb f g = pick_case P (leb a b) x y (λ e. f (leb-true a b e)) (λ e. g (leb-false a b e))
 
   pub pick_ltb : (a < b → P x) → (b ≤ a → P y) → P (pick (ltb a b) x y)
-  pick_ltb f g = pick_case P (ltb a b) x y (λ e. f (ltb_true a b e)) (λ e. g (ltb-false a b e))
+  pick_ltb f g = pick_case P (ltb a b) x y (λ e. f (ltb-true a b e)) (λ e. g (ltb-false a b e))
 
   pub pick_eqb : (a ≡ b → P x) → ((a ≡ b → ⊥) → P y) → P (pick (eqb a b) x y)
   pick_eqb f g = pick_case P (eqb a b) x y (λ e. f (eqb-true a b e)) (λ e. g (eqb-false a b e))

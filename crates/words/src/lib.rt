@@ -1,5 +1,7 @@
 // Little-endian numbers of 16 and 32 bits in byte slices: each function is the definition of the same name in specs/.
 // Bytes are joined and split by products and divisions that the compiler turns into one load or one store.
+#![tactic(auto)]
+
 ghost use Rattle.std.specs.Prelude.{◌≡◌, ◌+◌, ◌*◌, ◌≤◌, length};
 ghost use Rattle.words.specs.Words.{get16, get32, put16, put32, word16, word32};
 

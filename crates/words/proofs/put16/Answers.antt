@@ -1,0 +1,14 @@
+-- `words::put16` meets its contract: the stores are the spec's own, and each leaves the length as it was.
+-- Assumes nothing.
+use borrow.Author.Rules.{rules}
+use native.Mathlib.Omega.{arith}
+use lib.ListN.{length-set}
+use Rattle.words.specs.Words.{put16}
+use Rattle.words.proofs.put16.Goals as goal
+
+pub bounds-s-at-2 : goal.bounds-s-at-2
+bounds-s-at-2 c = simp length-set (omega arith)
+
+pub returns : goal.returns
+unfolding put16
+returns c = search rules
