@@ -22,7 +22,7 @@ use words::word16;
 // What a call returns: the number of document 01's answer or refusal, and its place or first field. 0 is the number of tables that
 // pass.
 #[repr(C)]
-#[derive(Drop)]
+#[derive(Clone, Copy)]
 pub struct Returned {
     pub number: u32,
     pub value: u32,

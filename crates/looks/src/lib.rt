@@ -23,7 +23,7 @@ use rules::{Answer, Cell, ProdNo, StateNo};
 use tables::{cell_in, size};
 
 // What a look decides. `SimulateFrom` has the entries of the real stack, the states pushed above them, and the next state.
-#[derive(Drop)]
+#[derive(Clone, Copy)]
 pub enum Act {
     ShiftTo(StateNo),
     ReduceBy(ProdNo),

@@ -13,7 +13,7 @@ use rooms::{token_end, token_kind, top_at};
 use rules::{Answer, Formed, StateNo};
 
 // A call's numbers: the tables' sizes, whether the flag is 1, the number of tokens, the start location and the depth that fits.
-#[derive(Drop)]
+#[derive(Clone, Copy)]
 pub struct Given {
     pub states: usize,
     pub kinds: usize,

@@ -10,14 +10,14 @@ ghost use Rattle.reader.specs.Tokens.{fitting_of, widen_token, Widened};
 use words::{get16, get32, put32};
 
 // A payload: its first byte and its length.
-#[derive(Drop)]
+#[derive(Clone, Copy)]
 pub struct Payload {
     pub start: usize,
     pub size: usize,
 }
 
 // "sizes, actions, gotos, productions (left side, length), right sides, items, first sets, tokens"
-#[derive(Drop)]
+#[derive(Clone, Copy)]
 pub struct Payloads {
     pub sizes: Payload,
     pub actions: Payload,
@@ -30,14 +30,14 @@ pub struct Payloads {
 }
 
 // What a file is: refused with a number and a place, or its payloads.
-#[derive(Drop)]
+#[derive(Clone, Copy)]
 pub enum ReadFile {
     Refused(usize, usize),
     Whole(Payloads),
 }
 
 // What a two-byte kind says by itself: its record is refused, it is skipped, or it holds whole entries of so many bytes.
-#[derive(Drop)]
+#[derive(Clone, Copy)]
 pub enum Class {
     Refused,
     Skipped,
@@ -45,7 +45,7 @@ pub enum Class {
 }
 
 // What stands at a place of the file: nothing more, a refusal, or a record to skip or to take, with its payload's length.
-#[derive(Drop)]
+#[derive(Clone, Copy)]
 pub enum Seen {
     Nothing,
     Wrong(usize),

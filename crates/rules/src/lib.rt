@@ -1,16 +1,15 @@
 // The types that contracts and definitions share. Document 01 itself is in specs/: this crate has no functions.
 #![tactic(auto)]
 
-
 // "A state number and a production number are two kinds and may not be mixed." Both are wide enough for every cell width.
-#[derive(Drop)]
+#[derive(Clone, Copy)]
 pub struct StateNo(pub u32);
 
-#[derive(Drop)]
+#[derive(Clone, Copy)]
 pub struct ProdNo(pub u32);
 
 // What an action cell says. A goto cell is read the same way: it shifts to a state, or it is an error, "none".
-#[derive(Drop)]
+#[derive(Clone, Copy)]
 pub enum Cell {
     Shift(StateNo),
     Reduce(ProdNo),
@@ -18,14 +17,14 @@ pub enum Cell {
 }
 
 // What the check says: all is well, or a refusal's number and its place.
-#[derive(Drop)]
+#[derive(Clone, Copy)]
 pub enum Verdict {
     Passes,
     Refused(u32, u32),
 }
 
 // "A token is (kind, start, end)."
-#[derive(Drop)]
+#[derive(Clone, Copy)]
 pub struct Token {
     pub kind: u32,
     pub start: u32,
@@ -33,7 +32,7 @@ pub struct Token {
 }
 
 // What a stack entry or a node stands for: the token, the record or the production of that number.
-#[derive(Drop)]
+#[derive(Clone, Copy)]
 pub enum What {
     Read(u32),
     Mark(u32),
@@ -42,7 +41,7 @@ pub enum What {
 
 // "Each stack entry is a token, a mark or a production, with its span." Beside these: its tokens (the first, and the one after
 // the last), its state and its node.
-#[derive(Drop)]
+#[derive(Clone, Copy)]
 pub struct Entry {
     pub what: What,
     pub start: u32,
@@ -55,7 +54,7 @@ pub struct Entry {
 
 // The error that recovery has formed: answer 3 or 4, its token or location, the lookahead's index where it arose, and the top
 // state of that moment, whose row says which kinds were expected.
-#[derive(Drop)]
+#[derive(Clone, Copy)]
 pub struct Formed {
     pub number: u32,
     pub at: u32,
@@ -64,7 +63,7 @@ pub struct Formed {
 }
 
 // How a run ends. The two unrecognized ones name the state whose row says which kinds were expected.
-#[derive(Drop)]
+#[derive(Clone, Copy)]
 pub enum Answer {
     Accepted(u32),
     AcceptedEarly(u32, u32),

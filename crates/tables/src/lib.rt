@@ -12,7 +12,7 @@ use rules::Cell;
 use words::word16;
 
 // Where a test of the check is first false.
-#[derive(Drop)]
+#[derive(Clone, Copy)]
 pub enum Place {
     At(u32),
     Nowhere,
