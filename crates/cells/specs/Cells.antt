@@ -1,6 +1,6 @@
 -- A cell's bits are the signed number of their width; what that number says is `cell_of` of the rules, whatever the width.
 -- Here: the same by tests on the bits, over the width; and the values at 0, -1, the lowest and the highest number of 16 bits.
-use Rattle.std.specs.Prelude.{Bool, true, false, ◌≡◌, refl, ℕ, zero, suc, ◌+◌, ◌-◌, ◌<◌, ◌≤◌, ◌^◌, eqb, ltb, ℤ, pos, negsuc}
+use Rattle.std.specs.Prelude.{◌≡◌, refl, ℕ, zero, suc, ◌-◌, ◌<◌, ◌≤◌, ◌^◌, eqb, ltb}
 use Rattle.std.proofs.Common.{arith, sub-one, lt-ltb, le-ltb, ne_eqb, pow_pos}
 use Rattle.std.proofs.Math.Decide.{dec_lt}
 use Rattle.std.specs.Int.{Width, w16}

@@ -1,8 +1,6 @@
 -- What the rooms hold, by byte offsets: a stack entry and a node are 8 words, a record 16, a child entry and a scratch state 1.
-use Rattle.std.specs.Prelude.{Bool, true, false, List, ℕ, zero, suc, ◌+◌, ◌*◌, ◌-◌, eqb}
+use Rattle.std.specs.Prelude.{List, ℕ, zero, suc, ◌+◌, ◌*◌, ◌-◌, eqb}
 use Rattle.words.specs.Words.{pick, get32, put32}
-use Rattle.rules.specs.declared.What.{What}
-use Rattle.rules.specs.declared.What.TheVariants.{Read, Mark, Production}
 use Rattle.rules.specs.declared.Entry.{Entry}
 use Rattle.rules.specs.Answers.{kind_of, which_of}
 

@@ -1,6 +1,6 @@
 -- The rules' machine on bytes: each definition does what its namesake of `rules` does (specs/Driving.antt there), with the lists
 -- as bytes in rooms and counts beside them. The code is proved equal to this, and this to refine the rules.
-use Rattle.std.specs.Prelude.{Bool, true, false, ◌&&◌, List, [], ℕ, zero, suc, ◌+◌, ◌*◌, ◌-◌, ◌/◌, min, leb, ltb, eqb, length}
+use Rattle.std.specs.Prelude.{Bool, true, false, List, ℕ, zero, suc, ◌+◌, ◌*◌, ◌-◌, ◌/◌, min, leb, ltb, eqb, length}
 use Rattle.words.specs.Words.{pick, word32, put32}
 use Rattle.rules.specs.declared.Cell.{Cell}
 use Rattle.rules.specs.declared.Cell.TheVariants.{Shift, Reduce, Error}
@@ -9,14 +9,14 @@ use Rattle.rules.specs.declared.Entry.{Entry}
 use Rattle.rules.specs.declared.Formed.{Formed}
 use Rattle.rules.specs.declared.StateNo.{StateNo}
 use Rattle.rules.specs.declared.Answer.{Answer}
-use Rattle.rules.specs.declared.Answer.TheVariants.{Accepted, AcceptedEarly, UnrecognizedToken, UnrecognizedEnd, ExtraToken, TokenizerError, OutOfUnits, OutOfDepth, OutOfChildren, OutOfNodes, OutOfRecords}
+use Rattle.rules.specs.declared.Answer.TheVariants.{Accepted, AcceptedEarly, UnrecognizedToken, ExtraToken, TokenizerError, OutOfUnits, OutOfDepth, OutOfChildren, OutOfNodes, OutOfRecords}
 use Rattle.rules.specs.Tables.{Tables, kinds, flag, error_column, end_column, action, goto, target, left, size}
 use Rattle.rules.specs.Driving.{answer_of, expected_word}
 use Rattle.rules.specs.Answers.{expected_words, ones_of}
 use Rattle.model.specs.declared.Mode.{Mode}
 use Rattle.model.specs.declared.Mode.TheVariants.{Main, Column, Search, Simulate, Ended}
 use Rattle.model.specs.declared.St.{St}
-use Rattle.model.specs.Bytes.{put8, put_entry, node_at, start_at, end_at, first_at, after_at, top_at, put_node, copy_nodes, scratch_at, sim_top}
+use Rattle.model.specs.Bytes.{put8, put_entry, node_at, start_at, end_at, first_at, after_at, top_at, put_node, copy_nodes, sim_top}
 
 -- What a call is given: the tables' and tokens' bytes, the number of tokens, the start location, and the depth that fits.
 pub record Call : Type 0 where

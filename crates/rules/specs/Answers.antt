@@ -1,5 +1,5 @@
 -- "What comes back": the number and the values of each answer, and the words and bytes of nodes and records.
-use Rattle.std.specs.Prelude.{Bool, true, false, List, [], ◌∷◌, ◌++◌, map, ℕ, zero, suc, ◌+◌, ◌/◌, leb, ltb, eqb, length}
+use Rattle.std.specs.Prelude.{List, [], ◌∷◌, ◌++◌, ℕ, zero, suc, ◌+◌, ◌/◌, leb, ltb, eqb, length}
 use Rattle.std.specs.Int.Count.{ones}
 use Rattle.words.specs.Words.{pick, le4, word32}
 use Rattle.rules.specs.declared.Token.{Token}

@@ -4,7 +4,6 @@ use Rattle.words.specs.Words.{pick, get16, get32}
 use Rattle.rules.specs.Basics.{text}
 use Rattle.rules.specs.declared.Token.{Token}
 use Rattle.rules.specs.declared.Answer.{Answer}
-use Rattle.rules.specs.declared.Answer.TheVariants.{Accepted, AcceptedEarly}
 use Rattle.rules.specs.Tables.{Tables, left}
 use Rattle.rules.specs.Check.{check, max_tokens}
 use Rattle.rules.specs.Driving.{Run, Marked, drive}

@@ -1,6 +1,6 @@
 -- "The plain driver of demand 3 is these rules with flag 0, no limits, no refusal 18, and kind t read as column t; it accepts if it
 -- reaches answer 1."
-use Rattle.std.specs.Prelude.{Bool, true, false, List, ◌≡◌, ℕ, leb}
+use Rattle.std.specs.Prelude.{true, false, List, ◌≡◌, ℕ, leb}
 use Rattle.rules.specs.declared.Token.{Token}
 use Rattle.rules.specs.declared.Answer.TheVariants.{Accepted}
 use Rattle.rules.specs.Tables.{Tables, kinds}

@@ -6,7 +6,6 @@ use Rattle.std.proofs.Common.{to_z}
 use Rattle.words.specs.Words.{pick, word16}
 use Rattle.rules.specs.declared.Cell.{Cell}
 use Rattle.rules.specs.declared.Cell.TheVariants.{Shift, Reduce, Error}
-use Rattle.rules.specs.declared.Token.{Token}
 
 -- "In a call, table numbers are 16-bit and a set is 33 bytes, as in the file." Each field is a list of bytes.
 pub record Tables : Type 0 where

@@ -1,5 +1,5 @@
 -- Trees, the tree that nodes and child entries hold, and derivations: "Derivations are the ordinary context-free ones".
-use Rattle.std.specs.Prelude.{Bool, true, false, List, [], ◌∷◌, ◌++◌, ◌≡◌, ℕ, zero, suc, ◌<◌, ◌≤◌, get_or, take, drop, length}
+use Rattle.std.specs.Prelude.{List, [], ◌∷◌, ◌≡◌, ℕ, zero, suc, ◌<◌, ◌≤◌, get_or, take, drop}
 use Rattle.rules.specs.declared.What.{What}
 use Rattle.rules.specs.declared.What.TheVariants.{Read, Mark, Production}
 use Rattle.rules.specs.Tables.{Tables, kinds, symbol_of, left, rhs, production_count}

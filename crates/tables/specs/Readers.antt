@@ -1,6 +1,6 @@
 -- The rules' readers over single slices: what the functions of this crate are proved equal to.
 -- `action` and `goto` of the rules are `cell_in` at their table's sizes, by definition.
-use Rattle.std.specs.Prelude.{Bool, true, false, ◌&&◌, List, ◌≡◌, refl, ℕ, ◌+◌, ◌*◌, ◌<◌, ◌≤◌, ◌^◌, ltb}
+use Rattle.std.specs.Prelude.{◌&&◌, List, ◌≡◌, refl, ℕ, ◌+◌, ◌*◌, ◌<◌, ◌≤◌, ◌^◌, ltb}
 use Rattle.std.proofs.Common.{le_of_lt, mul-le-mul, arith}
 use borrow.Author.Tests.{lt-ltb, le-ltb}
 use Rattle.words.specs.Words.{pick}

@@ -1,6 +1,5 @@
 -- `words::word16` meets its contract: its two tests together are the spec's one, and say that the number lies inside.
 -- Assumes nothing.
-use borrow.Author.Rules.{rules}
 use mathlib.Core.Path.{sym, ◌∙◌}
 use native.Mathlib.Omega.{arith}
 use Rattle.words.specs.Laws.{word16_in, word16_out}

@@ -1,6 +1,5 @@
 -- `words::word32` meets its contract: its two tests together are the spec's one, and say that the number lies inside.
 -- Assumes nothing.
-use borrow.Author.Rules.{rules}
 use mathlib.Core.Path.{sym, ◌∙◌}
 use native.Mathlib.Omega.{arith}
 use Rattle.words.specs.Laws.{word32_in, word32_out}
