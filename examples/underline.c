@@ -1,7 +1,7 @@
 /* A host of the library, whole: reads a view recipe, says what each material shows as, and
  * underlines what it could not read. To build and run it, at the root of this repository:
  *
- *   rt staticlib chamrolak
+ *   ./build.sh
  *   cc -Iinclude examples/underline.c target/staticlib/libchamrolak.a -o underline
  *   ./underline examples/recipes/errors.recipe
  *

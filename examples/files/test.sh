@@ -1,6 +1,6 @@
 #!/usr/bin/env bash
 # The program on files: every bench example of document 01, and files that are refused. Each NAME.file gives NAME.expected; a file of
-# 65,537 bytes is refused with 33, and one of 65,536 with 30 (its first record is cut). Needs target/bin/recipe (rt check recipe).
+# 65,537 bytes is refused with 33, and one of 65,536 with 30 (its first record is cut). Needs target/bin/recipe (./build.sh).
 set -euo pipefail
 cd "$(dirname "$0")"
 recipe=../../target/bin/recipe

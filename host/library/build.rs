@@ -1,4 +1,4 @@
-//! Links the library's archive: the one that `rt staticlib chamrolak` writes, or the one that the
+//! Links the library's archive: the one that `./build.sh` writes, or the one that the
 //! environment variable CHAMROLAK_ARCHIVE names.
 
 use std::path::PathBuf;
@@ -16,7 +16,7 @@ fn main() {
     println!("cargo:rerun-if-changed={}", archive.display());
     if !archive.ends_with("libchamrolak.a") || !archive.is_file() {
         println!(
-            "cargo:warning=There is no library at {}. Make it with `rt staticlib chamrolak`, or \
+            "cargo:warning=There is no library at {}. Make it with `./build.sh`, or \
              name a file libchamrolak.a in {VARIABLE}.",
             archive.display()
         );

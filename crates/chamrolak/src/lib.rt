@@ -1,5 +1,5 @@
 // The calls of the viewer's C host. None asks anything of its caller: each says what it returns, and what every lent room then holds,
-// for all input. include/chamrolak.h has them for C.
+// for all input. The crate chamrolak_c exports them, and include/chamrolak.h has them for C.
 #![tactic(auto)]
 
 ghost use Rattle.std.specs.Prelude.{true, List, [], ◌≡◌, ℕ, ◌<◌, ◌^◌, length};
@@ -45,8 +45,7 @@ fn in_numbers(verdict: Verdict) -> Returned
 }
 
 // The check of a call's tables: 10 to 17 with its place, or 0. It writes nothing.
-#[unsafe(no_mangle)]
-pub extern "C" fn chamrolak_check(
+pub fn chamrolak_check(
     sizes: &[u8],
     actions: &[u8],
     gotos: &[u8],
@@ -170,8 +169,7 @@ fn answer_all(
 
 // The run without the check, for a host that has checked its tables once: 18 with nothing touched, or the answer. It is safe on any
 // bytes; what the theory says of runs holds where the check passes.
-#[unsafe(no_mangle)]
-pub extern "C" fn chamrolak_drive(
+pub fn chamrolak_drive(
     sizes: &[u8],
     actions: &[u8],
     gotos: &[u8],
@@ -212,8 +210,7 @@ pub extern "C" fn chamrolak_drive(
 }
 
 // The whole of document 01 in one call: the check, 18, the run.
-#[unsafe(no_mangle)]
-pub extern "C" fn chamrolak_parse(
+pub fn chamrolak_parse(
     sizes: &[u8],
     actions: &[u8],
     gotos: &[u8],

@@ -2,28 +2,38 @@
 // units, its tree and its marks. What is printed is the library's (`answering::fill`); here is only what reads, calls and writes.
 #![tactic(auto)]
 
-use libc::{STDERR_FILENO, STDIN_FILENO, STDOUT_FILENO};
+ghost use Rattle.std.specs.Prelude.{◌≡◌, ◌≤◌, length, IfOk};
+
+use std::io;
+use std::io::{Read, Write};
 
 // "A program reads standard input, at most 65,536 bytes": one byte more is read, so that a longer file is seen to be one.
-fn main() {
+fn main(rt: HostRuntime) -> io::Result<()> {
     let mut file = [0u8; 65537];
-    let n = io::read_full(STDIN_FILENO, &mut file);
-    if n < 65537 && !is_at_end() {
-        io::write_all(STDERR_FILENO, b"recipe: standard input could not be read\n");
-        return;
+    match read_full(&mut rt.stdin(), &mut file) {
+        Ok(n) => answer(&rt, &file[..n]),
+        Err(_) => rt.stderr().write_all(b"recipe: standard input could not be read\n"),
     }
-    answer(&file[..n]);
 }
 
-// A read that comes back short has met the end of the input or has failed: at the end one more read gives nothing.
-fn is_at_end() -> bool {
-    let mut more = [0u8; 1];
-    libc::read(STDIN_FILENO, &mut more) == 0
+// Reads until the buffer is full or the input ends, and says how many bytes are at the buffer's start. A read that fails is told.
+fn read_full<R: Read>(input: &mut R, buf: &mut [u8]) -> io::Result<usize>
+    ensures { IfOk result (λ n. n ≤ length buf.new) }
+{
+    let mut done = 0;
+    while done < buf.len() {
+        let n = input.read(&mut buf[done..])?;
+        if n == 0 {
+            break;
+        }
+        done += n;
+    }
+    Ok(done)
 }
 
 // "Limits: 1,000,000 units, depth 512, 4,096 child entries, 1,024 nodes, 64 records": the rooms of a call, and one for the tokens of
 // the longest file.
-fn answer(file: &[u8]) {
+fn answer(rt: &HostRuntime, file: &[u8]) -> io::Result<()> {
     let mut tokens = [0u8; 78636];
     let mut stack = [0u8; 16384];
     let mut scratch = [0u8; 2048];
@@ -31,7 +41,7 @@ fn answer(file: &[u8]) {
     let mut children = [0u8; 16384];
     let mut records = [0u8; 4096];
     let mut report = [0u8; 64];
-    let mut out = [0u8; 524288];
+    let mut out = zeros::<524288>();
     let end = answering::fill(
         file,
         &mut tokens,
@@ -43,19 +53,23 @@ fn answer(file: &[u8]) {
         &mut report,
         &mut out,
     );
-    print(&out, end);
+    print(rt, &out, end)
+}
+
+// Its contract tells the length alone: a proof that has so many zeros before it would unfold them one by one.
+fn zeros<const N: usize>() -> [u8; N]
+    ensures { N ≡ length result }
+{
+    [0; N]
 }
 
 // A place before the buffer's end says that all of the text is there.
-fn print(out: &[u8], end: usize) {
+fn print(rt: &HostRuntime, out: &[u8], end: usize) -> io::Result<()> {
     if end >= out.len() {
-        io::write_all(STDERR_FILENO, b"recipe: the answer is too long to print\n");
-        return;
+        return rt.stderr().write_all(b"recipe: the answer is too long to print\n");
     }
-    if !io::write_all(STDOUT_FILENO, &out[..end]) {
-        io::write_all(
-            STDERR_FILENO,
-            b"recipe: standard output could not be written\n",
-        );
+    match rt.stdout().write_all(&out[..end]) {
+        Ok(()) => Ok(()),
+        Err(_) => rt.stderr().write_all(b"recipe: standard output could not be written\n"),
     }
 }
