@@ -202,9 +202,9 @@ pub data Gets (J : Job) : Run → Run → Type 0 where
 
 pub simulate_all : {J : Job} → Free J → {r : Run} {c d : Config Leaf} → Steps J.tables (terminal J) c d → Shadows J r c → (s : Run) × Gets J r s × Shadows J s d
 simulate_all F {r} stay sh = (r, here, sh)
-simulate_all F (go s l) sh =
+simulate_all F {r = r} (go s l) sh =
     let m = simulate F s sh in
-    let n = simulate_all F l m.shadows in
+    let n = simulate_all F {r = m.run} l m.shadows in
     (n.0, next m.stepped n.1, n.2)
 
 pub counted_out : {J : Job} {r s : Run} (a : Answer) (t : Run) → Gets J r s → step J s ≡ done a t → (n : ℕ) × (run_from J n (more r) ≡ done a t)
@@ -289,8 +289,8 @@ read_before stay a = a
 read_before (go (Step.shift h c) l) a = (h, read_before l a)
 read_before (go (Step.reduce c h g) l) a = read_before l a
 
-small_readable : {T : Tables} {tokens : List Token} {t : Tree Leaf} → SmallAccepts T (kind_in T tokens) (in_order 0 (length tokens)) t → Readable T tokens
-small_readable {T} {tokens} s i h =
+small_readable : {T : Tables} (tokens : List Token) {t : Tree Leaf} → SmallAccepts T (kind_in T tokens) (in_order 0 (length tokens)) t → Readable T tokens
+small_readable {T} tokens s i h =
     let P : Leaf → Type 0 = λ x. kind_in T tokens x ≤ kinds T in
     let e : 0 + i ≡ i = omega arith in
     subst (λ k. P (token k)) e (in_order_in P 0 (length tokens) (read_before s.way tt) i h)
@@ -298,7 +298,7 @@ small_readable {T} {tokens} s i h =
 pub small_plain : (T : Tables) (tokens : List Token) (origin : ℕ) (t : Tree Leaf) → check T ≡ Passes → SmallAccepts T (kind_in T tokens) (in_order 0 (length tokens)) t → PlainAccepts T tokens origin t
 unfolding plain_job
 small_plain T tokens origin t ok s =
-    let a = free_accepts (plain_free T tokens origin ok (small_readable s)) t s in
+    let a = free_accepts (plain_free T tokens origin ok (small_readable tokens s)) t s in
     record { looks = a.looks; root = a.root; run = a.run; accepted = a.accepted; built = built_tree a.built }
 
 pub derivation_small : {T : Tables} {tokens : List Token} {t : Tree Leaf} → check T ≡ Passes → Derivation T tokens t → SmallAccepts T (kind_in T tokens) (in_order 0 (length tokens)) t

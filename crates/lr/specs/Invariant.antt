@@ -320,7 +320,7 @@ stays {J} {r} F ok (reduces {p = p} {m = mode} e l d) =
       along = above m (along_drop J r.stack (size J.tables (suc p)) ok.along);
       in_tokens = ok.in_tokens;
       readable = ok.readable;
-      mode_ok = reduce_mode J _ mode l;
+      mode_ok = reduce_mode J (production_entry J (counted r) (suc p) (take (size J.tables (suc p)) r.stack) rest ∷ rest) mode l;
     }
   where
     reduce_mode : (J : Job) (stack : List Entry) (m : Mode) → Reduces m → ModeOK J stack m

@@ -67,7 +67,7 @@ accepts_from J s o (Does.forms m h) = tt
 accepts_from J s o (Does.early {f = f} {e = e} m q x) = (e, f, m, q, refl, refl, refl)
 accepts_from J s o (Does.turns f c d m) = tt
 accepts_from J s o (Does.drops f c h) = arrive_keeps (From J s) J _ tt (λ l. tt) tt (λ l. tt)
-accepts_from J s o (Does.Gives-up f c h) = error_from J s f (counted s)
+accepts_from J s o (Does.gives_up f c h) = error_from J s f (counted s)
 accepts_from J s o (Does.marks f k c l a) = tt
 
 -- ---- over passing tables
