@@ -166,6 +166,7 @@ passes_of (row ∷ rows) h =
 
 pub refused_of : (rows : List Row) (n p : ℕ) → FirstBad rows n p → judge_all rows ≡ Refused n p
 unfolding judge
+refused_of [] n p x = elim x [ ]
 refused_of (row ∷ rows) n p (here e k h f) =
     first_bad_law row.number row.test 0 row.places (judge_all rows) p (omega arith) (omega arith) (λ j a b. h j b) f ∙ rw e
 refused_of (row ∷ rows) n p (later h b) =

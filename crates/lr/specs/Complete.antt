@@ -1,7 +1,7 @@
 -- The plain driver is complete: every derivation's token list is accepted, with that tree; so no list has two derivation trees.
 -- The steps of `Small` are steps of the machine of `rules` with flag 0, no limits and kind t read as column t.
-use Rattle.std.specs.Prelude.{Bool, true, false, List, [], ◌∷◌, ◌≡◌, refl, ℕ, zero, suc, ◌+◌, ◌-◌, ◌≤◌, ◌<◌, length, get_or, take, drop}
-use Rattle.std.proofs.Common.{⊎_elim, sym, ap, subst, ◌∙◌, suc-add, add-one, arith, ltb-true, leb-true, le-leb, lt-ltb, le-ltb, ne_eqb}
+use Rattle.std.specs.Prelude.{Bool, true, false, List, [], ◌∷◌, ◌≡◌, refl, ℕ, zero, suc, ◌+◌, ◌-◌, ◌≤◌, ◌<◌, length, get_or}
+use Rattle.std.proofs.Common.{⊎_elim, sym, ap, subst, ◌∙◌, suc-add, add-one, arith, ltb-true, lt-ltb, le-ltb, ne_eqb}
 use Rattle.std.proofs.Math.Logic.{by_cases}
 use Rattle.std.proofs.Math.Decide.{dec_le}
 use Rattle.rules.specs.declared.Token.{Token}
@@ -11,21 +11,17 @@ use Rattle.rules.specs.declared.StateNo.{StateNo}
 use Rattle.rules.specs.declared.Entry.{Entry}
 use Rattle.rules.specs.declared.Answer.{Answer}
 use Rattle.rules.specs.declared.Answer.TheVariants.{Accepted, OutOfUnits, OutOfDepth}
-use Rattle.rules.specs.declared.Verdict.TheVariants.{Passes}
-use Rattle.rules.specs.Tables.{Tables, kinds, end_column, action, goto, target, left, size}
-use Rattle.rules.specs.Check.{check}
-use Rattle.rules.specs.Driving.{Job, Run, main, Outcome, more, done, Node, top_state, top_of, root_of, no_token, token_at, has_token, look_column, counted, read_to, advanced, grow, need, judge_kind, arrive, token_entry, shift, production_entry, nodes_of, reduce_over, reduce, main_reduce, main_look, states_of, look, step, run_from, first_run, begin, drive}
-use Rattle.rules.specs.Trees.{Tree, leaf, branch, Forest, nil, Leaf, token, leaves_t, leaves_f, Derives, DerivesAll, tree_at, reads, produces, none, then}
+use Rattle.rules.specs.Tables.{Tables, kinds, end_column, action}
+use Rattle.rules.specs.Driving.{Job, Run, main, Outcome, more, done, Node, top_state, top_of, root_of, no_token, token_at, has_token, look_column, counted, read_to, advanced, grow, need, judge_kind, arrive, token_entry, shift, main_reduce, main_look, states_of, look, step, run_from, first_run, begin, drive}
+use Rattle.rules.specs.Trees.{Tree, leaf, Forest, Leaf, token, leaves_t, leaves_f, Derives, DerivesAll, tree_at, reads, produces, none, then}
 use Rattle.rules.specs.Plain.{plain_job, PlainAccepts}
 use Rattle.lr.specs.Each.{Each}
 use Rattle.lr.specs.Bools.{whether, pick_true, pick_false}
-use Rattle.lr.specs.Checked.{laws}
-use Rattle.lr.specs.Stack.{reducible}
-use Rattle.lr.specs.Invariant.{Fits, OK, counted_ok, map_drop, top_of_states, column_of_token, column_at_end, StaysOK, stays, begins_ok, shifts, reduces}
-use Rattle.lr.specs.Built.{Built, built_tree}
-use Rattle.lr.specs.Stands.{kind_in, terminal, forest_of, Stood, bare, over, stood_shift, stood_reduce}
+use Rattle.lr.specs.Invariant.{Fits, OK, counted_ok, top_of_states, column_of_token, column_at_end, StaysOK, stays, begins_ok, shifts}
+use Rattle.lr.specs.Built.{Built}
+use Rattle.lr.specs.Stands.{kind_in, terminal, Stood, bare, over, stood_shift}
 use Rattle.lr.specs.Sound.{in_order, Derivation}
-use Rattle.lr.specs.Small.{column_of, Config, config, Step, Steps, stay, go, SmallAccepts, small_complete}
+use Rattle.lr.specs.Small.{column_of, Config, config, Step, Steps, stay, go, SmallAccepts}
 
 -- ---- the leaves of a derivation are terminals
 
@@ -94,10 +90,10 @@ pub step_main : (J : Job) (r : Run) (b : Bool) (c : Cell) → r.mode ≡ main �
 unfolding step look look_column
 step_main J r b c e h a = ap (look J (counted r)) e ∙ (ap (λ x. main_look J (counted r) x (action J.tables (top_state r.stack) (look_column J r))) h ∙ ap (main_look J (counted r) b) a)
 
-need_true : {b : Bool} (a : Answer) (r : Run) (o : Outcome) → b ≡ true → need b a r o ≡ o
+pub need_true : {b : Bool} (a : Answer) (r : Run) (o : Outcome) → b ≡ true → need b a r o ≡ o
 need_true a r o e = rw e
 
-top_is : {J : Job} {r : Run} {c : Config Leaf} → Shadows J r c → top_state r.stack ≡ top_of c.states
+pub top_is : {J : Job} {r : Run} {c : Config Leaf} → Shadows J r c → top_state r.stack ≡ top_of c.states
 top_is {r = r} sh = sym (top_of_states r.stack) ∙ ap top_of sh.states
 
 -- what is ahead decides whether there is a lookahead token
@@ -107,7 +103,7 @@ token_ahead J r k e = lt-ltb r.next (length J.tokens) (omega arith)
 no_token_ahead : (J : Job) (r : Run) → r.next + 0 ≡ length J.tokens → has_token J r ≡ false
 no_token_ahead J r e = le-ltb r.next (length J.tokens) (omega arith)
 
-column_is : {J : Job} {r : Run} {c : Config Leaf} → Shadows J r c → look_column J r ≡ column_of J.tables (terminal J) c.input
+pub column_is : {J : Job} {r : Run} {c : Config Leaf} → Shadows J r c → look_column J r ≡ column_of J.tables (terminal J) c.input
 column_is {J} {r} {c} sh = by sh.ahead sh.place sh.input
   where
     by : (k : ℕ) → r.next + k ≡ length J.tokens → in_order r.next k ≡ c.input → look_column J r ≡ column_of J.tables (terminal J) c.input
@@ -119,7 +115,7 @@ pub record Simulated (J : Job) (r : Run) (d : Config Leaf) : Type 0 where
   pub stepped : step J r ≡ more run
   pub shadows : Shadows J run d
 
-simulate_shift : {J : Job} → Free J → {r : Run} {ss : List ℕ} {ts : List (Tree Leaf)} {x : Leaf} {w : List Leaf} (s : ℕ) → Shadows J r (config ss ts (x ∷ w))
+pub simulate_shift : {J : Job} → Free J → {r : Run} {ss : List ℕ} {ts : List (Tree Leaf)} {x : Leaf} {w : List Leaf} (s : ℕ) → Shadows J r (config ss ts (x ∷ w))
     → action J.tables (top_of ss) (terminal J x) ≡ Shift (record { 0 = s }) → Simulated J r (config (s ∷ ss) (leaf x ∷ ts) w)
 unfolding main_look shift grow token_entry
 simulate_shift {J} F {r} {ss} {ts} {x} {w} s sh a = by sh.ahead sh.place sh.input
@@ -159,53 +155,11 @@ simulate_shift {J} F {r} {ss} {ts} {x} {w} s sh a = by sh.ahead sh.place sh.inpu
           };
         }
 
-simulate_reduce_law : {J : Job} → Free J → {r : Run} {ss : List ℕ} {ts : List (Tree Leaf)} {w : List Leaf} (p s : ℕ) → Shadows J r (config ss ts w)
-    → action J.tables (top_of ss) (column_of J.tables (terminal J) w) ≡ Reduce (record { 0 = suc p })
-    → goto J.tables (top_of (drop (size J.tables (suc p)) ss)) (left J.tables (suc p)) ≡ Shift (record { 0 = s })
-    → Simulated J r (config (s ∷ drop (size J.tables (suc p)) ss) (branch (suc p) (forest_of (take (size J.tables (suc p)) ts) nil) ∷ drop (size J.tables (suc p)) ts) w)
-unfolding main_look main_reduce reduce reduce_over grow production_entry
-simulate_reduce_law {J} F {r} {ss} {ts} {w} p s sh a g =
-    let n : ℕ = size J.tables (suc p) in
-    let popped : List Entry = take n r.stack in
-    let rest : List Entry = drop n r.stack in
-    let next : Run = grow (counted r) rest (production_entry J (counted r) (suc p) popped rest) (nodes_of popped) [] main in
-    let c : action J.tables (top_state r.stack) (look_column J r) ≡ Reduce (record { 0 = suc p }) = rw (top_is sh, column_is sh) a in
-    let d = reducible F.fits.laws sh.ok.along (look_column J r) p (rw top_of_states c) in
-    let e : step J r ≡ more next =
-    step_main J r (has_token J r) (Reduce (record { 0 = suc p })) sh.in_main refl c
-    ∙ (need_true _ _ _ (F.depth_fits_law _) ∙ (need_true _ _ _ (F.children_fit_law _) ∙ need_true _ _ _ (F.nodes_fit_law _))) in
-    let below : states_of rest ≡ drop n ss = sym (map_drop (λ (x : Entry). x.state.0) n r.stack) ∙ ap (drop n) sh.states in
-    let to : goto J.tables (top_state rest) (left J.tables (suc p)) ≡ Shift (record { 0 = s }) = ap (λ q. goto J.tables q (left J.tables (suc p))) (sym (top_of_states rest) ∙ ap top_of below) ∙ g in
-    record {
-      run = next;
-      stepped = e;
-      shadows = record {
-        ok = stays F.fits sh.ok (reduces sh.in_main tt d);
-        in_main = refl;
-        states = λ i. target (to i) ∷ below i;
-        stood = stood_reduce {r = counted r} F.fits (counted_ok sh.ok) sh.stood (suc p) popped rest refl refl d;
-        ahead = sh.ahead;
-        place = sh.place;
-        input = sh.input;
-      };
-    }
-
-pub simulate : {J : Job} → Free J → {r : Run} {c d : Config Leaf} → Step J.tables (terminal J) c d → Shadows J r c → Simulated J r d
-simulate F (Step.shift {s = s} h a) sh = simulate_shift F s sh a
-simulate F (Step.reduce {p = p} {s = s} a l g) sh = simulate_reduce_law F p s sh a g
-
 -- ---- runs, look by look, and then with their number
 
 pub data Gets (J : Job) : Run → Run → Type 0 where
   here : {r : Run} → Gets J r r
   next : {r s t : Run} → step J r ≡ more s → Gets J s t → Gets J r t
-
-pub simulate_all : {J : Job} → Free J → {r : Run} {c d : Config Leaf} → Steps J.tables (terminal J) c d → Shadows J r c → (s : Run) × Gets J r s × Shadows J s d
-simulate_all F {r} stay sh = (r, here, sh)
-simulate_all F (go s l) sh =
-    let m = simulate F s sh in
-    let n = simulate_all F l m.shadows in
-    (n.0, next m.stepped n.1, n.2)
 
 pub counted_out : {J : Job} {r s : Run} (a : Answer) (t : Run) → Gets J r s → step J s ≡ done a t → (n : ℕ) × (run_from J n (more r) ≡ done a t)
 unfolding run_from
@@ -214,7 +168,7 @@ counted_out {J} a t (next q l) e = let r = counted_out a t l e in (suc r.0, ap (
 
 -- ---- acceptance
 
-root_built : {J : Job} {ns : List Node} {cs : List ℕ} {es : List Entry} {t : Tree Leaf} {ts : List (Tree Leaf)} → Stood J ns cs es (t ∷ ts) → Built ns cs (root_of es) t
+pub root_built : {J : Job} {ns : List Node} {cs : List ℕ} {es : List Entry} {t : Tree Leaf} {ts : List (Tree Leaf)} → Stood J ns cs es (t ∷ ts) → Built ns cs (root_of es) t
 root_built (over b d s) = b
 
 -- a job's run accepts with a tree
@@ -225,11 +179,11 @@ pub record Accepts (J : Job) (tree : Tree Leaf) : Type 0 where
   pub accepted : drive J looks ≡ done (Accepted root) run
   pub built : Built run.nodes run.children root tree
 
-begins_free : {J : Job} → Free J → (l : ℕ) × (begin J ≡ more (read_to (first_run J) l))
+pub begins_free : {J : Job} → Free J → (l : ℕ) × (begin J ≡ more (read_to (first_run J) l))
 unfolding begin
 begins_free {J} F = let q = arrives F (first_run J) in (q.0, need_true OutOfDepth (first_run J) (arrive J (first_run J)) (F.depth_fits_law 1) ∙ q.1)
 
-first_shadow : {J : Job} → Free J → (l : ℕ) → begin J ≡ more (read_to (first_run J) l) → Shadows J (read_to (first_run J) l) (config [] [] (in_order 0 (length J.tokens)))
+pub first_shadow : {J : Job} → Free J → (l : ℕ) → begin J ≡ more (read_to (first_run J) l) → Shadows J (read_to (first_run J) l) (config [] [] (in_order 0 (length J.tokens)))
 unfolding first_run
 first_shadow {J} F l e =
     record {
@@ -242,7 +196,7 @@ first_shadow {J} F l e =
       input = refl;
     }
 
-ends_accepted : {J : Job} {r : Run} {t : Tree Leaf} (s : ℕ) → Shadows J r (config (s ∷ []) (t ∷ []) []) → action J.tables s (end_column J.tables) ≡ Reduce (record { 0 = 0 })
+pub ends_accepted : {J : Job} {r : Run} {t : Tree Leaf} (s : ℕ) → Shadows J r (config (s ∷ []) (t ∷ []) []) → action J.tables s (end_column J.tables) ≡ Reduce (record { 0 = 0 })
     → step J r ≡ done (Accepted (root_of r.stack)) (counted r)
 unfolding main_look main_reduce
 ends_accepted {J} {r} {t} s sh a = by sh.ahead sh.place sh.input
@@ -254,34 +208,6 @@ ends_accepted {J} {r} {t} s sh a = by sh.ahead sh.place sh.input
     by zero p i = step_main J r false (Reduce (record { 0 = 0 })) sh.in_main (no_token_ahead J r p) c
     by (suc k) p i = let z : ◌≡◌ {A = ℕ} 0 1 = cc in absurd (omega arith)
 
-pub free_accepts : {J : Job} → Free J → (t : Tree Leaf) → SmallAccepts J.tables (terminal J) (in_order 0 (length J.tokens)) t → Accepts J t
-unfolding drive
-free_accepts {J} F t a =
-    let b = begins_free F in
-    let m = simulate_all F a.way (first_shadow F b.0 b.1) in
-    let e : step J m.0 ≡ done (Accepted (root_of m.0.stack)) (counted m.0) = ends_accepted a.state m.2 a.at_end_law in
-    let n = counted_out (Accepted (root_of m.0.stack)) (counted m.0) m.1 e in
-    record {
-      looks = n.0;
-      root = root_of m.0.stack;
-      run = counted m.0;
-      accepted = ap (run_from J n.0) b.1 ∙ n.1;
-      built = root_built m.2.stood;
-    }
-
--- ---- the plain driver
-
-pub plain_free : (T : Tables) (tokens : List Token) (origin : ℕ) → check T ≡ Passes → Readable T tokens → Free (plain_job T tokens origin)
-unfolding plain_job
-plain_free T tokens origin ok R =
-    record {
-      fits = record { laws = laws T ok; reads_in = λ k e. leb-true k (kinds T) e };
-      depth_fits_law = λ n. refl;
-      children_fit_law = λ n. refl;
-      nodes_fit_law = λ n. refl;
-      all_read = λ i h. le-leb (get_or tokens i no_token).kind (kinds T) (R i h);
-    }
-
 -- ---- the plain driver in small accepts the same lists with the same trees
 
 read_before : {A : Type 0} {T : Tables} {kind : A → ℕ} {c d : Config A} → Steps T kind c d → Each (λ x. kind x ≤ kinds T) d.input → Each (λ x. kind x ≤ kinds T) c.input
@@ -289,23 +215,11 @@ read_before stay a = a
 read_before (go (Step.shift h c) l) a = (h, read_before l a)
 read_before (go (Step.reduce c h g) l) a = read_before l a
 
-small_readable : {T : Tables} {tokens : List Token} {t : Tree Leaf} → SmallAccepts T (kind_in T tokens) (in_order 0 (length tokens)) t → Readable T tokens
-small_readable {T} {tokens} s i h =
+pub small_readable : {T : Tables} (tokens : List Token) {t : Tree Leaf} → SmallAccepts T (kind_in T tokens) (in_order 0 (length tokens)) t → Readable T tokens
+small_readable {T} tokens s i h =
     let P : Leaf → Type 0 = λ x. kind_in T tokens x ≤ kinds T in
     let e : 0 + i ≡ i = omega arith in
     subst (λ k. P (token k)) e (in_order_in P 0 (length tokens) (read_before s.way tt) i h)
-
-pub small_plain : (T : Tables) (tokens : List Token) (origin : ℕ) (t : Tree Leaf) → check T ≡ Passes → SmallAccepts T (kind_in T tokens) (in_order 0 (length tokens)) t → PlainAccepts T tokens origin t
-unfolding plain_job
-small_plain T tokens origin t ok s =
-    let a = free_accepts (plain_free T tokens origin ok (small_readable s)) t s in
-    record { looks = a.looks; root = a.root; run = a.run; accepted = a.accepted; built = built_tree a.built }
-
-pub derivation_small : {T : Tables} {tokens : List Token} {t : Tree Leaf} → check T ≡ Passes → Derivation T tokens t → SmallAccepts T (kind_in T tokens) (in_order 0 (length tokens)) t
-derivation_small {T} {tokens} {t} ok d = subst (λ w. SmallAccepts T (kind_in T tokens) w t) d.order (small_complete (laws T ok) d.derives)
-
-pub complete : (T : Tables) (tokens : List Token) (origin : ℕ) (tree : Tree Leaf) → check T ≡ Passes → Derivation T tokens tree → PlainAccepts T tokens origin tree
-complete T tokens origin tree ok d = small_plain T tokens origin tree ok (derivation_small ok d)
 
 -- ---- one tree for a list
 
@@ -345,7 +259,3 @@ one_reading T tokens origin t u a b =
     let root : a.root ≡ b.root = e.0 in
     let run : a.run ≡ b.run = e.1 in
     sym a.built ∙ (λ i. tree_at (run i).nodes (run i).children (root i)) ∙ b.built
-
--- "no list has two derivation trees"
-pub one_tree : (T : Tables) (tokens : List Token) (t u : Tree Leaf) → check T ≡ Passes → Derivation T tokens t → Derivation T tokens u → t ≡ u
-one_tree T tokens t u ok d e = one_reading T tokens 0 t u (complete T tokens 0 t ok d) (complete T tokens 0 u ok e)

@@ -10,8 +10,8 @@ use Rattle.rules.specs.Tables.{Tables, states, columns, kinds, error_column, end
 use Rattle.rules.specs.Driving.{Job, Run, Mode, main, column, search, simulate, Outcome, more, done, top_state, top_of, token_at, has_token, look_column, counted, grow, need, formed, arrive, states_of, first_run, begin}
 use Rattle.rules.specs.declared.Answer.TheVariants.{OutOfDepth}
 use Rattle.lr.specs.Checked.{Enters, Laws}
-use Rattle.lr.specs.Stack.{Along, bottom, above, moves_enter, reducible, whole}
-use Rattle.lr.specs.Invariant.{Fits, OK, counted_ok, ModeOK, along_drop, column_of_token, column_at_end, Carries, Does, does, stops, shifts, reduces, accepts, extra, refuses, forms, early, turns, drops, gives_up, marks, arrive_keeps, Reaches, begins, goes, always_ok}
+use Rattle.lr.specs.Stack.{Along, bottom, above, moves_enter}
+use Rattle.lr.specs.Invariant.{Fits, OK, counted_ok, column_of_token, column_at_end, Carries, Does, stops, shifts, reduces, accepts, extra, refuses, forms, early, turns, drops, gives_up, marks, arrive_keeps}
 
 -- ---- the look of a mode: the states on which its cell acts, and the column
 
@@ -83,18 +83,7 @@ pub record Safe (J : Job) (r : Run) : Type 0 where
 
 -- ---- from the invariant
 
-reduce_safe : {T : Tables} → Laws T → {ss Xs : List ℕ} → Along T ss Xs → (c p : ℕ) → action T (top_of ss) c ≡ Reduce (record { 0 = p }) → ReduceSafe T ss p
-reduce_safe L al c zero e = (whole L al c e).one
-reduce_safe L al c (suc p) e =
-    let d = reducible L al c p e in
-    record { known = d.production; enough = d.fits; to = d.to; goes_there = d.goes; enters = d.enters }
-
-cell_safe : {T : Tables} → Laws T → {ss Xs : List ℕ} → Along T ss Xs → (c : ℕ) (x : Cell) → action T (top_of ss) c ≡ x → CellSafe T ss x
-cell_safe L {ss} al c (Shift s) e = L.shift_enters (top_of ss) c e
-cell_safe L al c (Reduce p) e = reduce_safe L al c p.0 e
-cell_safe L al c Error e = tt
-
-top_in : {T : Tables} → Laws T → {ss Xs : List ℕ} → Along T ss Xs → top_of ss < states T
+pub top_in : {T : Tables} → Laws T → {ss Xs : List ℕ} → Along T ss Xs → top_of ss < states T
 top_in L bottom = (L.item_in L.start).state_in_law
 top_in L (above {ss = ss} {X = X} {s = s} m al) = (moves_enter L (top_of ss) X s m).known
 
@@ -116,30 +105,15 @@ look_in_law {J} {r} a = by (has_token J r) refl
     by true h = omega (arith, (a.of_token h).2)
     by false h = omega (arith, (a.at_end_law h).0)
 
--- the path of transitions on which a look acts
-look_along : {J : Job} {r : Run} → OK J r → (m : Mode) → r.mode ≡ m → (Xs : List ℕ) × Along J.tables (look_states r m) Xs
-look_along ok main e = (_, ok.along)
-look_along ok (column f) e = (_, ok.along)
-look_along {J} {r} ok (search f k) e = (_, along_drop J r.stack k ok.along)
-look_along {J} {r} ok (simulate f k sim) e = (subst (ModeOK J r.stack) e ok.mode_ok).2
-
-look_column_in : {J : Job} {r : Run} → Agrees J r → (m : Mode) → look_in J r m < columns J.tables
+pub look_column_in : {J : Job} {r : Run} → Agrees J r → (m : Mode) → look_in J r m < columns J.tables
 look_column_in a main = look_in_law a
 look_column_in a (column f) = omega arith
 look_column_in a (search f k) = omega arith
 look_column_in a (simulate f k sim) = look_in_law a
 
-look_placed : {J : Job} {r : Run} → Fits J → OK J r → (m : Mode) → r.mode ≡ m → Placed J r m
-look_placed F ok main e = tt
-look_placed F ok (column f) e = tt
-look_placed {J} {r} F ok (search f k) e = subst (ModeOK J r.stack) e ok.mode_ok
-look_placed {J} {r} F ok (simulate f k sim) e =
-    let g = subst (ModeOK J r.stack) e ok.mode_ok in
-    (g.0, (g.1.0, g.1.1, F.laws.shift_enters (top_state (drop k r.stack)) (error_column J.tables) g.1.1))
-
 -- ---- the error that rides along arose at the lookahead or before it
 
-abbrev AroseIn : Job → Outcome → Type 0
+abbrev pub AroseIn : Job → Outcome → Type 0
 AroseIn J (more r) = (f : Formed) → Carries r.mode f → Arose J r f
 AroseIn J (done a r) = Unit
 
@@ -159,7 +133,7 @@ formed_arose r ok true h = record { before = omega arith; of_end = λ e. absurd 
 formed_arose {J} r ok false h =
     record { before = omega arith; of_end = λ e. omega (arith, ltb-false r.next (length J.tokens) h, ok.in_tokens) }
 
-arose : {J : Job} {r : Run} {o : Outcome} → OK J r → AroseIn J (more r) → Does J r o → AroseIn J o
+pub arose : {J : Job} {r : Run} {o : Outcome} → OK J r → AroseIn J (more r) → Does J r o → AroseIn J o
 unfolding grow
 arose ok h (stops s) = tt
 arose {J} {r} ok h (shifts e t a) = arrive_keeps (AroseIn J) J _ (λ f c. absurd c) (λ l f c. absurd c) tt (λ l. tt)
@@ -175,32 +149,10 @@ arose {J} {r} ok h (drops g c t) =
 arose ok h (gives_up f c t) = tt
 arose ok h (marks f k c l a) = λ g x. absurd x
 
-begin_arose : (J : Job) → AroseIn J (begin J)
+pub begin_arose : (J : Job) → AroseIn J (begin J)
 unfolding begin first_run
 begin_arose J = by (J.depth_fits 1)
   where
     by : (b : Bool) → AroseIn J (need b OutOfDepth (first_run J) (arrive J (first_run J)))
     by true = arrive_keeps (AroseIn J) J (first_run J) (λ f c. absurd c) (λ l f c. absurd c) tt (λ l. tt)
     by false = tt
-
-pub always_arose : {J : Job} → Fits J → {r : Run} → Reaches J r → (f : Formed) → Carries r.mode f → Arose J r f
-always_arose {J} F (begins e) = subst (AroseIn J) e (begin_arose J)
-always_arose {J} F (goes {r = r} h e) =
-    let ok = always_ok F h in subst (AroseIn J) e (arose ok (always_arose F h) (does J F r ok))
-
--- ---- every look of every run is safe
-
-pub always_safe : {J : Job} → Fits J → {r : Run} → Reaches J r → Safe J r
-always_safe {J} F {r} h =
-    let ok = always_ok F h in
-    let a = agrees F ok in
-    let al = look_along ok r.mode refl in
-    record {
-      state_in_law = top_in F.laws al.1;
-      column_in = look_column_in a r.mode;
-      cell = cell_safe F.laws al.1 (look_in J r r.mode) _ refl;
-      placed = look_placed F ok r.mode refl;
-      agrees = a;
-      arose = always_arose F h;
-      next_in = ok.in_tokens;
-    }

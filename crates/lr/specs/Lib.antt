@@ -1,4 +1,4 @@
--- The theory of the rules. `Theorems`, the last, states what is shown. First what a passing check gives, and the plain driver.
+-- The theory of the rules. `Theorems` of proofs/ states what is shown. First what a passing check gives, and the plain driver.
 pub mod Each
 pub mod Bools
 pub mod Checked
@@ -28,4 +28,3 @@ pub mod Replaced
 pub mod Recovered
 pub mod Written
 pub mod Accounted
-pub mod Theorems

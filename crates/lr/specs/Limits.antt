@@ -205,6 +205,7 @@ cut_cases J [] r o = Cut.whole tt refl
 cut_cases J (d ∷ ds) r o = one_more J d ds r o (fits J d) refl (cut_cases J ds r o)
 
 pub not_both : (J : Job) (a : Answer) (ds : List Demand) → StopsAt J a ds → AllFit J ds → ⊥
+not_both J a [] x all = elim x [ ]
 not_both J a (d ∷ ds) (StopsAt.here e l) all = absurd (true≢false (sym all.0 ∙ e))
 not_both J a (d ∷ ds) (StopsAt.later e at) all = not_both J a ds at all.1
 
@@ -280,6 +281,7 @@ driven J budget = driven_by J budget (J.depth_fits 1) refl
 
 -- a limit's number
 pub limit_number : (J : Job) (a : Answer) (ds : List Demand) → StopsAt J a ds → (20 ≤ number_of a) × (number_of a ≤ 23)
+limit_number J a [] x = elim x [ ]
 limit_number J a (d ∷ ds) (StopsAt.here e l) = rw (← l) (limit_numbers d)
 limit_number J a (d ∷ ds) (StopsAt.later e at) = limit_number J a ds at
 

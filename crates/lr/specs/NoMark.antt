@@ -3,7 +3,7 @@
 use Rattle.std.specs.Prelude.{Bool, ◌⊎◌, ◌≡◌, refl, eqb, leb, get_or, take, drop}
 use Rattle.std.proofs.Math.Bool.{true, false}
 use mathlib.Core.List.{List, []}
-use Rattle.std.proofs.Common.{inl, inr, ⊎_elim, sym, ap, ◌∙◌, arith, lit≤, ltb-true, lt-ltb, le-leb}
+use Rattle.std.proofs.Common.{inl, inr, ⊎_elim, sym, ap, ◌∙◌, arith, lit≤, ltb-true, le-leb}
 use Rattle.std.proofs.Math.Path.{subst}
 use Prim.Native.Nat.{ℕ, zero, suc, ◌+◌, ◌≤◌, ◌<◌}
 use Rattle.std.proofs.Math.ListN.{length}
@@ -15,16 +15,14 @@ use Rattle.rules.specs.declared.Cell.TheVariants.{Shift, Reduce, Error}
 use Rattle.rules.specs.declared.Formed.{Formed}
 use Rattle.rules.specs.declared.Answer.{Answer}
 use Rattle.rules.specs.declared.Answer.TheVariants.{Accepted, UnrecognizedToken, TokenizerError, OutOfUnits, OutOfDepth, OutOfChildren, OutOfNodes}
-use Rattle.rules.specs.declared.Verdict.TheVariants.{Passes}
 use Rattle.rules.specs.Tables.{Tables, kinds, size, action}
-use Rattle.rules.specs.Check.{check}
 use Rattle.rules.specs.Driving.{Job, Run, main, Outcome, more, done, top_state, depth_over, no_token, token_at, has_token, look_column, counted, read_to, advanced, grow, need, judge_kind, arrive, token_entry, shift, empty_spot, production_entry, reduce_over, reduce, main_reduce, formed, answer_of, fail, main_look, look, step, run_from, first_run, begin, drive}
 use Rattle.rules.specs.Trees.{Tree, Leaf, leaves, tree_at}
 use Rattle.rules.specs.Answers.{number_of, Limits, job_of}
-use Rattle.rules.specs.Plain.{plain_job, PlainAccepts}
+use Rattle.rules.specs.Plain.{plain_job}
 use Rattle.lr.specs.Bools.{whether, pick_true, pick_false}
 use Rattle.lr.specs.Invariant.{arrive_keeps}
-use Rattle.lr.specs.Sound.{Unmarked, in_order, Parsed, Reads, run_reads, plain_fits, sound}
+use Rattle.lr.specs.Sound.{Unmarked, in_order}
 use Rattle.lr.specs.Complete.{ended}
 
 -- a job with flag 0, no limits, and kind t read as column t
@@ -147,7 +145,7 @@ begin_alike : (J : Job) → AllRead J → Alike (begin (freed J)) (begin J)
 unfolding begin first_run
 begin_alike J R = alike_need (J.depth_fits 1) OutOfDepth (first_run J) (lit≤ tt) (arrive_alike J R (first_run J) refl)
 
-drive_alike : (J : Job) → AllRead J → (n m root : ℕ) (s : Run) (a : Answer) (r : Run) → drive (freed J) m ≡ done (Accepted root) s → drive J n ≡ done a r → Ends (done (Accepted root) s) a r
+pub drive_alike : (J : Job) → AllRead J → (n m root : ℕ) (s : Run) (a : Answer) (r : Run) → drive (freed J) m ≡ done (Accepted root) s → drive J n ≡ done a r → Ends (done (Accepted root) s) a r
 unfolding drive
 drive_alike J R n m root s a r e f = alike_run J R n m root s a r (begin_alike J R) e f
 
@@ -166,7 +164,7 @@ pub record SameTree (tokens : List Token) (tree : Tree Leaf) (a : Answer) (r : R
   pub no_mark_law : Unmarked r.nodes
   pub no_record : r.marks ≡ []
 
-carried : (tokens : List Token) (tree : Tree Leaf) (a : Answer) (r : Run) (root : ℕ) (s : Run) → done (Accepted root) s ≡ done a r
+pub carried : (tokens : List Token) (tree : Tree Leaf) (a : Answer) (r : Run) (root : ℕ) (s : Run) → done (Accepted root) s ≡ done a r
     → tree_at s.nodes s.children root ≡ tree → leaves tree ≡ in_order 0 (length tokens) → Unmarked s.nodes → s.marks ≡ [] → SameTree tokens tree a r
 carried tokens tree a r root s k b o u n =
     let e : s ≡ r = cc in
@@ -178,15 +176,3 @@ carried tokens tree a r root s k b o u n =
       no_mark_law = subst (λ x. Unmarked x.nodes) e u;
       no_record = subst (λ x. x.marks ≡ []) e n;
     }
-
-pub same_tree : (T : Tables) (tokens : List Token) (origin : ℕ) (L : Limits) (budget : ℕ) (tree : Tree Leaf) (a : Answer) (r : Run) → check T ≡ Passes
-    → UserKinds T tokens → PlainAccepts T tokens origin tree → drive (job_of T tokens origin L) budget ≡ done a r → number_of a < 19 → SameTree tokens tree a r
-unfolding job_of plain_job
-same_tree T tokens origin L budget tree a r ok user p f l =
-    let J : Job = job_of T tokens origin L in
-    let P : Job = plain_job T tokens origin in
-    let read : AllRead J = λ i h. (lt-ltb (get_or tokens i no_token).kind (kinds T) (user i h), omega (arith, user i h)) in
-    let q : Parsed P p.run p.root = subst (Reads P) p.accepted (run_reads (plain_fits T tokens origin ok) refl p.looks).1 in
-    let e = drive_alike J read budget p.looks p.root p.run a r p.accepted f in
-    ⊎_elim (λ k. absurd (omega arith))
-    (λ k. carried tokens tree a r p.root p.run k p.built (sound T tokens origin tree ok p).order q.unmarked q.no_marks) e

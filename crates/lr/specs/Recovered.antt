@@ -1,21 +1,20 @@
 -- What an accepted run leaves, early or not: the tree at the root lies side by side over all tokens that were read, and its marks ascend.
 -- It is read off the step that accepts, where the stack is one symbol whose range is from 0 to the lookahead.
-use Rattle.std.specs.Prelude.{◌≡◌, refl, ◌⊎◌, false, List, [], ◌∷◌, ℕ, zero, suc, ◌≤◌, ◌<◌, eqb, length}
-use Rattle.std.proofs.Common.{sym, ap, ◌∙◌, subst, inl, inr, arith, ltb-false}
+use Rattle.std.specs.Prelude.{◌≡◌, refl, false, List, [], ◌∷◌, ℕ, zero, suc, ◌≤◌, ◌<◌, eqb, length}
+use Rattle.std.proofs.Common.{sym, ap, ◌∙◌, subst, arith}
 use Rattle.words.specs.Laws.{pick_case}
 use Rattle.rules.specs.declared.Entry.{Entry}
 use Rattle.rules.specs.declared.Formed.{Formed}
 use Rattle.rules.specs.declared.Answer.{Answer}
 use Rattle.rules.specs.declared.Answer.TheVariants.{Accepted, AcceptedEarly, UnrecognizedToken, UnrecognizedEnd, ExtraToken, TokenizerError, OutOfUnits, OutOfDepth, OutOfChildren, OutOfNodes, OutOfRecords}
 use Rattle.rules.specs.Answers.{number_of}
-use Rattle.rules.specs.Driving.{Job, Run, Mode, Outcome, counted, has_token, answer_of, arrive, first_run, begin, step, drive}
+use Rattle.rules.specs.Driving.{Job, Run, Mode, Outcome, counted, has_token, answer_of, arrive, first_run, begin}
 use Rattle.rules.specs.Trees.{leaves, tree_at}
 use Rattle.lr.specs.Each.{Each}
 use Rattle.lr.specs.Built.{built_tree}
-use Rattle.lr.specs.Invariant.{Fits, Stops, Does, does, Reaches, always_ok, arrive_keeps}
-use Rattle.lr.specs.Runs.{Holds, need_case, walk, walk_snoc, not_past_done, Reached, LastStep, last_step, other_end}
-use Rattle.lr.specs.Ranges.{Joined, RangesIn, ranges_reached}
-use Rattle.lr.specs.Choice.{FormedBy, Known, known}
+use Rattle.lr.specs.Invariant.{Stops, Does, Reaches, arrive_keeps}
+use Rattle.lr.specs.Runs.{Holds, need_case, walk, walk_snoc, not_past_done, Reached}
+use Rattle.lr.specs.Ranges.{Joined}
 use Rattle.lr.specs.Tiles.{TilesT}
 use Rattle.lr.specs.Tiled.{EntryTiles, NodeSays, Tiled, tiled_reached}
 use Rattle.lr.specs.Ordered.{Ascends, marks_ascend, Stacked, Ordered, ordered_reached}
@@ -36,7 +35,7 @@ AcceptsFrom J s OutOfChildren r = Unit {0}
 AcceptsFrom J s OutOfNodes r = Unit {0}
 AcceptsFrom J s OutOfRecords r = Unit {0}
 
-abbrev From : Job → Run → Outcome → Type 0
+abbrev pub From : Job → Run → Outcome → Type 0
 From J s o = Holds (λ r. Unit {0}) (AcceptsFrom J s) o
 
 stopped_from : (J : Job) (s : Run) (a : Answer) (r : Run) → Stops a → AcceptsFrom J s a r
@@ -56,7 +55,7 @@ error_from : (J : Job) (s : Run) (f : Formed) (r : Run) → AcceptsFrom J s (ans
 unfolding answer_of
 error_from J s f r = pick_case (λ (a : Answer). AcceptsFrom J s a r) (eqb f.number 3) _ _ (λ e. tt) (λ e. tt)
 
-accepts_from : (J : Job) (s : Run) (o : Outcome) → Does J s o → From J s o
+pub accepts_from : (J : Job) (s : Run) (o : Outcome) → Does J s o → From J s o
 accepts_from J s o (Does.stops {a = a} h) = stopped_from J s a (counted s) h
 accepts_from J s o (Does.shifts e h a) = arrive_keeps (From J s) J _ tt (λ l. tt) tt (λ l. tt)
 accepts_from J s o (Does.reduces e l d) = tt
@@ -67,7 +66,7 @@ accepts_from J s o (Does.forms m h) = tt
 accepts_from J s o (Does.early {f = f} {e = e} m q x) = (e, f, m, q, refl, refl, refl)
 accepts_from J s o (Does.turns f c d m) = tt
 accepts_from J s o (Does.drops f c h) = arrive_keeps (From J s) J _ tt (λ l. tt) tt (λ l. tt)
-accepts_from J s o (Does.Gives-up f c h) = error_from J s f (counted s)
+accepts_from J s o (Does.gives_up f c h) = error_from J s f (counted s)
 accepts_from J s o (Does.marks f k c l a) = tt
 
 -- ---- over passing tables
@@ -95,7 +94,7 @@ reaches_reached {J} (Reaches.goes {r = r} h e) =
     record { steps = suc w.steps; reached = walk_snoc J w.steps (begin J) r w.reached ∙ e }
 
 -- a run that ends before its first look accepts nothing
-begin_not : (J : Job) → Holds (λ r. Unit {0}) (λ a r. 3 ≤ number_of a) (begin J)
+pub begin_not : (J : Job) → Holds (λ r. Unit {0}) (λ a r. 3 ≤ number_of a) (begin J)
 unfolding begin
 begin_not J =
     need_case (λ o. Holds (λ r. Unit {0}) (λ a r. 3 ≤ number_of a) o) (J.depth_fits 1) OutOfDepth (first_run J) (arrive J (first_run J)) (λ e. omega arith) (λ e.
@@ -124,54 +123,12 @@ marks_stack r e q h =
     ascend_of : Stacked r.nodes r.children (e ∷ []) (length r.marks) → Ascends (leaves (tree_at r.nodes r.children e.node)) 0
     ascend_of g = rw (built_tree g.1.built) (marks_ascend g.1.tree g.0 (length r.marks) g.1.numbers)
 
--- the step that accepted
-last_from : (J : Job) → Fits J → (a : Answer) (r : Run) → number_of a < 3 → (begin J ≡ Outcome.done a r) ⊎ LastStep J a r
-    → (s : Run) × Reached J s × AcceptsFrom J s a r
-last_from J F a r small (inl e) =
-    let h : 3 ≤ number_of a = subst (λ (o : Outcome). Holds (λ x. Unit {0}) (λ b x. 3 ≤ number_of b) o) e (begin_not J) in absurd (omega arith)
-last_from J F a r small (inr l) =
-    (l.run, l.reached, subst (From J l.run) l.ends (accepts_from J l.run (step J l.run) (does J F l.run (always_ok F (reached_reaches l.reached)))))
-
-small_not_units : (a : Answer) → number_of a < 3 → a ≡ OutOfUnits → ⊥
+pub small_not_units : (a : Answer) → number_of a < 3 → a ≡ OutOfUnits → ⊥
 small_not_units a small q = let n : number_of a ≡ 19 = ap number_of q in omega arith
 
-accepted_at : (J : Job) → Fits J → (budget : ℕ) (a : Answer) (r : Run) → number_of a < 3 → drive J budget ≡ Outcome.done a r
-    → (s : Run) × Reached J s × AcceptsFrom J s a r
-accepted_at J F budget a r small e =
-    last_from J F a r small (last_step J budget a r (other_end J budget a r (small_not_units a small) e))
-
-whole_of : (J : Job) (s r : Run) (e : Entry) (root to : ℕ) → Reached J s → s.stack ≡ e ∷ [] → Joined s.stack to → e.node ≡ root → r ≡ counted s
+pub whole_of : (J : Job) (s r : Run) (e : Entry) (root to : ℕ) → Reached J s → s.stack ≡ e ∷ [] → Joined s.stack to → e.node ≡ root → r ≡ counted s
     → RootOver J r root to
 whole_of J s r e root to w q j n same =
     let h = tiled_reached J s w in
     let here : RootOver J (counted s) e.node to = record { tiles = whole_stack s e to q j h; ascends = marks_stack s e q (ordered_reached J s w); says = h.says } in
     subst (λ (x : Run). RootOver J x root to) (sym same) (subst (λ (i : ℕ). RootOver J (counted s) i to) n here)
-
-module _ (J : Job) (F : Fits J) (budget root : ℕ) (r : Run) where
-  -- answer 1: over all tokens
-  pub accepted_whole : drive J budget ≡ Outcome.done (Accepted root) r → RootOver J r root (length J.tokens)
-  accepted_whole e = from_step (accepted_at J F budget (Accepted root) r (omega arith) e)
-    where
-      from_step : (s : Run) × Reached J s × AcceptsFrom J s (Accepted root) r → RootOver J r root (length J.tokens)
-      from_step (s, w, (x, m, t, q, n, same)) =
-          let g = ranges_reached J s w in
-          let j : Joined s.stack s.next = subst (RangesIn J s.stack s.next) m g.ranges in
-          let reach = g.reach in
-          let over = ltb-false s.next (length J.tokens) t in
-          let end : s.next ≡ length J.tokens = omega arith in
-          whole_of J s r x root (length J.tokens) w q (subst (Joined s.stack) end j) n same
-
-  -- answer 2: over the tokens before the one at which the error arose, or all of them where it arose at the end
-  pub early_whole : (i : ℕ) → drive J budget ≡ Outcome.done (AcceptedEarly root i) r
-      → RootOver J r root i × ((f : Formed) × FormedBy J f r.marks × (f.from ≡ i)) × (i ≤ length J.tokens)
-  early_whole i e = from_step (accepted_at J F budget (AcceptedEarly root i) r (omega arith) e)
-    where
-      from_step : (s : Run) × Reached J s × AcceptsFrom J s (AcceptedEarly root i) r
-          → RootOver J r root i × ((f : Formed) × FormedBy J f r.marks × (f.from ≡ i)) × (i ≤ length J.tokens)
-      from_step (s, w, (x, f, m, q, n, at, same)) =
-          let g = ranges_reached J s w in
-          let j : RangesIn J s.stack s.next (Mode.column f) = subst (RangesIn J s.stack s.next) m g.ranges in
-          let known-here : Known J s (Mode.column f) = subst (λ (y : Mode). Known J s y) m (known J s w) in
-          let place : s.next ≡ i = sym j.1 ∙ at in
-          let reach = g.reach in
-          (whole_of J s r x root i w q (subst (Joined s.stack) place j.0) n same, (f, subst (λ (y : Run). FormedBy J f y.marks) (sym same) known-here.0, at), omega arith)

@@ -1,7 +1,7 @@
 -- The plain driver is sound: what it accepts is derived by the tree that it builds, whose leaves are the tokens in order.
 -- Beside the trees of `Stands` a run without recovery keeps this: the leaves on its stack, then the tokens ahead, are all tokens.
 use Rattle.std.specs.Prelude.{Bool, true, false, List, [], ◌∷◌, ◌++◌, ◌≡◌, refl, ℕ, zero, suc, ◌+◌, eqb, length, take, drop}
-use Rattle.std.proofs.Common.{sym, ap, subst, ◌∙◌, add-one, arith, ltb-true, ltb-false, leb-true}
+use Rattle.std.proofs.Common.{sym, ap, subst, ◌∙◌, add-one, arith, ltb-true, ltb-false}
 use Rattle.words.specs.Laws.{pick_case}
 use Rattle.rules.specs.declared.Token.{Token}
 use Rattle.rules.specs.declared.What.{What}
@@ -10,17 +10,13 @@ use Rattle.rules.specs.declared.Entry.{Entry}
 use Rattle.rules.specs.declared.Formed.{Formed}
 use Rattle.rules.specs.declared.Answer.{Answer}
 use Rattle.rules.specs.declared.Answer.TheVariants.{Accepted, AcceptedEarly, UnrecognizedToken, UnrecognizedEnd, ExtraToken, TokenizerError, OutOfUnits, OutOfDepth, OutOfChildren, OutOfNodes, OutOfRecords}
-use Rattle.rules.specs.declared.Verdict.TheVariants.{Passes}
-use Rattle.rules.specs.Tables.{Tables, kinds, size, symbol}
-use Rattle.rules.specs.Check.{check}
-use Rattle.rules.specs.Driving.{Job, Run, main, Outcome, more, done, Node, node_of, production_entry, has_token, counted, advanced, grow, need, arrive, token_entry, answer_of, begin, first_run, drive}
+use Rattle.rules.specs.Tables.{Tables, size, symbol}
+use Rattle.rules.specs.Driving.{Job, Run, main, Outcome, more, done, Node, node_of, production_entry, has_token, counted, advanced, grow, need, arrive, token_entry, answer_of, begin, first_run}
 use Rattle.rules.specs.Trees.{Tree, leaf, branch, Forest, nil, cons, Leaf, token, leaves_t, leaves_f, leaves, Derives}
-use Rattle.rules.specs.Plain.{plain_job, PlainAccepts}
 use Rattle.lr.specs.Each.{Each, each_append}
 use Rattle.lr.specs.Bools.{not_both}
-use Rattle.lr.specs.Checked.{laws}
-use Rattle.lr.specs.Invariant.{Fits, OK, counted_ok, symbol_for, Stops, Carries, Does, does, StaysOK, stays, begins_ok, run_keeps, arrive_keeps, shifts, reduces, marks, stops, accepts, extra, refuses, forms, early, turns, drops, gives_up}
-use Rattle.lr.specs.Built.{Built, built_tree}
+use Rattle.lr.specs.Invariant.{Fits, OK, counted_ok, symbol_for, Stops, Carries, Does, arrive_keeps, shifts, reduces, marks, stops, accepts, extra, refuses, forms, early, turns, drops, gives_up}
+use Rattle.lr.specs.Built.{Built}
 use Rattle.lr.specs.Stands.{kind_in, terminal, forest_of, Stood, bare, over, stood_shift, stood_reduce}
 
 -- n tokens in order, from token i on
@@ -170,7 +166,7 @@ reads_on {J} {r} F nr ok rd (drops f c h) = absurd (subst (λ m. Carries m f) rd
 reads_on {J} {r} F nr ok rd (gives_up f c h) = absurd (subst (λ m. Carries m f) rd.in_main c)
 reads_on {J} {r} F nr ok rd (marks f k c l a) = absurd (subst (λ m. Carries m f) rd.in_main c)
 
-begin_reads : (J : Job) → Reads J (begin J)
+pub begin_reads : (J : Job) → Reads J (begin J)
 unfolding begin first_run
 begin_reads J = go (J.depth_fits 1)
   where
@@ -181,32 +177,9 @@ begin_reads J = go (J.depth_fits 1)
     go true = arrive_keeps (Reads J) J (first_run J) first (λ l. reread 0 l first) tt (λ l. tt)
     go false = tt
 
--- every run of a job that does not recover
-pub run_reads : {J : Job} → Fits J → J.recovers ≡ false → (n : ℕ) → StaysOK J (drive J n) × Reads J (drive J n)
-unfolding drive
-run_reads {J} F nr n =
-    run_keeps (λ o. StaysOK J o × Reads J o) J
-    (λ r h. (stays F h.0 (does J F r h.0), reads_on F nr h.0 h.1 (does J F r h.0))) (λ r h. (tt, tt)) n (begin J)
-    (begins_ok J, begin_reads J)
-
 -- ---- the plain driver
-
-pub plain_fits : (T : Tables) (tokens : List Token) (origin : ℕ) → check T ≡ Passes → Fits (plain_job T tokens origin)
-unfolding plain_job
-plain_fits T tokens origin ok = record { laws = laws T ok; reads_in = λ k e. leb-true k (kinds T) e }
 
 -- a derivation of a token list from the nonterminal on production 0's right side
 pub record Derivation (T : Tables) (tokens : List Token) (tree : Tree Leaf) : Type 0 where
   pub derives : Derives T (kind_in T tokens) (symbol T 0 0) tree
   pub order : leaves tree ≡ in_order 0 (length tokens)
-
-pub sound : (T : Tables) (tokens : List Token) (origin : ℕ) (tree : Tree Leaf) → check T ≡ Passes → PlainAccepts T tokens origin tree → Derivation T tokens tree
-unfolding plain_job
-sound T tokens origin tree ok a =
-    let J : Job = plain_job T tokens origin in
-    let p : Parsed J a.run a.root = subst (Reads J) a.accepted (run_reads (plain_fits T tokens origin ok) refl a.looks).1 in
-    let same : p.tree ≡ tree = sym (built_tree p.built) ∙ a.built in
-    record {
-      derives = subst (Derives T (kind_in T tokens) (symbol T 0 0)) same p.derives;
-      order = subst (λ t. leaves t ≡ in_order 0 (length tokens)) same p.order;
-    }

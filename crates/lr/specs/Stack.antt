@@ -1,9 +1,9 @@
 -- The states on a stack are a path of transitions from state 0, and so an item of the top state walks down its production: a
 -- reduction pops exactly its right side, never below the bottom, and the state below has the goto.
 use Rattle.std.specs.Prelude.{List, [], ◌∷◌, ◌≡◌, refl, ℕ, zero, suc, ◌+◌, ◌-◌, ◌≤◌, ◌<◌, length, drop}
-use Rattle.std.proofs.Common.{⊎_elim, sym, ap, subst, ◌∙◌, arith, le-leb}
+use Rattle.std.proofs.Common.{⊎_elim, sym, ap, ◌∙◌, arith, le-leb}
 use Rattle.std.proofs.lemmas.Bool.{lt-leb}
-use Rattle.rules.specs.declared.Cell.TheVariants.{Shift, Reduce}
+use Rattle.rules.specs.declared.Cell.TheVariants.{Shift}
 use Rattle.rules.specs.Tables.{Tables, kinds, production_count, is_terminal, symbol_of, nonterminal_of, action, goto, move, left, size, symbol, rhs}
 use Rattle.rules.specs.Driving.{top_of}
 use Rattle.lr.specs.Bools.{whether, pick_true, pick_false}
@@ -47,15 +47,6 @@ pub record Walked (T : Tables) (ss Xs : List ℕ) (p d : ℕ) : Type 0 where
   pub opened : Has T (top_of (drop d ss)) p 0 lookahead
   pub rest : Along T (drop d ss) (drop d Xs)
 
-pub walk : {T : Tables} → Laws T → {ss Xs : List ℕ} → Along T ss Xs → (p d a : ℕ) → Has T (top_of ss) p d a → Walked T ss Xs p d
-walk L bottom p zero a x = record { fits = omega arith; symbols = tt; lookahead = a; opened = x; rest = bottom }
-walk L (above m al) p zero a x = record { fits = omega arith; symbols = tt; lookahead = a; opened = x; rest = above m al }
-walk L bottom p (suc d) a x = absurd (L.dot_up x refl)
-walk L (above {ss = ss} {X = X} m al) p (suc d) a x =
-    let c = L.comes (top_of ss) X x m in
-    let w = walk L al p d c.1.0 c.1.1 in
-    record { fits = omega (arith, w.fits); symbols = (c.0, w.symbols); lookahead = w.lookahead; opened = w.opened; rest = w.rest }
-
 -- a state other than the bottom one is not state 0
 pub only_bottom : {T : Tables} → Laws T → {ss Xs : List ℕ} → Along T ss Xs → top_of ss ≡ 0 → length ss ≡ 0
 only_bottom L bottom e = refl
@@ -73,40 +64,7 @@ pub record Reducible (T : Tables) (ss Xs : List ℕ) (p : ℕ) : Type 0 where
   pub enters : Enters T to
   pub along : Along T (to ∷ drop (size T p) ss) (symbol_of T (left T p) ∷ drop (size T p) Xs)
 
-pub reducible : {T : Tables} → Laws T → {ss Xs : List ℕ} → Along T ss Xs → (c p : ℕ) → action T (top_of ss) c ≡ Reduce (record { 0 = suc p }) → Reducible T ss Xs (suc p)
-reducible {T} L {ss} {Xs} al c p e =
-    let x = L.reduce_item (top_of ss) c e in
-    let w = walk L al (suc p) (size T (suc p)) x.0 x.1 in
-    let g = L.has_goto_law w.opened in
-    let below : ℕ = top_of (drop (size T (suc p)) ss) in
-    record {
-      fits = w.fits;
-      symbols = w.symbols;
-      production = L.reduce_known (top_of ss) c e;
-      to = g.0;
-      goes = g.1;
-      enters = L.goto_enters below (left T (suc p)) g.1;
-      along = above (move_nonterminal T below (left T (suc p)) ∙ g.1) w.rest;
-    }
-
 -- "Production 0 is nonterminal 0 to one other nonterminal; reducing it accepts": over exactly that one symbol
 pub record Whole (T : Tables) (ss Xs : List ℕ) : Type 0 where
   pub one : length ss ≡ 1
   pub symbols : Xs ≡ symbol T 0 0 ∷ []
-
-alone : {T : Tables} (s X : ℕ) {ss Xs : List ℕ} → Along T ss Xs → length ss ≡ 0 → X ≡ symbol T 0 0 → Whole T (s ∷ ss) (X ∷ Xs)
-alone s X bottom z e = record { one = refl; symbols = ap {B = List ℕ} (λ Y. Y ∷ []) e }
-alone s X (above m al) z e = absurd (omega arith)
-
-on_top : {T : Tables} → Laws T → {ss Xs : List ℕ} → Along T ss Xs → Walked T ss Xs 0 1 → Whole T ss Xs
-on_top L bottom w = absurd w.symbols
-on_top {T} L (above {X = X} {s = s} m al) w =
-    let first = L.root in
-    let here = w.symbols.0 in
-    let e : X ≡ symbol T 0 0 = cc in
-    alone s X al (only_bottom L al (L.only_start w.opened)) e
-
-pub whole : {T : Tables} → Laws T → {ss Xs : List ℕ} → Along T ss Xs → (c : ℕ) → action T (top_of ss) c ≡ Reduce (record { 0 = 0 }) → Whole T ss Xs
-whole {T} L {ss} al c e =
-    let x = L.reduce_item (top_of ss) c e in
-    on_top L al (walk L al 0 1 x.0 (subst (λ n. Has T (top_of ss) 0 n x.0) L.root_size x.1))

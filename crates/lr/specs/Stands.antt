@@ -15,11 +15,11 @@ use Rattle.rules.specs.declared.Formed.{Formed}
 use Rattle.rules.specs.declared.Answer.{Answer}
 use Rattle.rules.specs.declared.Answer.TheVariants.{Accepted, AcceptedEarly, UnrecognizedToken, UnrecognizedEnd, ExtraToken, TokenizerError, OutOfUnits, OutOfDepth, OutOfChildren, OutOfNodes, OutOfRecords}
 use Rattle.rules.specs.Tables.{Tables, error_column, size, symbol, rhs}
-use Rattle.rules.specs.Driving.{Job, Run, main, Outcome, more, done, Node, Marked, no_token, has_token, counted, advanced, node_of, grow, need, arrive, token_entry, production_entry, nodes_of, mark_entry, answer_of, states_of, first_run, begin, drive}
+use Rattle.rules.specs.Driving.{Job, Run, main, Outcome, more, done, Node, Marked, no_token, has_token, counted, advanced, node_of, grow, need, arrive, token_entry, production_entry, nodes_of, mark_entry, answer_of, states_of, first_run, begin}
 use Rattle.rules.specs.Trees.{Tree, leaf, branch, Forest, nil, cons, Leaf, token, mark, Derives, DerivesAll}
 use Rattle.lr.specs.Checked.{length_rhs}
 use Rattle.lr.specs.Stack.{Behind, Reducible}
-use Rattle.lr.specs.Invariant.{Fits, OK, counted_ok, symbol_for, symbols_of, Stops, Does, does, StaysOK, stays, begins_ok, run_keeps, arrive_keeps, shifts, reduces, marks, stops, accepts, extra, refuses, forms, early, turns, drops, gives_up}
+use Rattle.lr.specs.Invariant.{Fits, OK, counted_ok, symbol_for, symbols_of, Stops, Does, arrive_keeps, shifts, reduces, marks, stops, accepts, extra, refuses, forms, early, turns, drops, gives_up}
 use Rattle.lr.specs.Built.{Built, BuiltAll, built_below, still_built, push_token, push_mark, push_production}
 
 -- a leaf's terminal: a token's kind; a mark is the error token
@@ -167,17 +167,10 @@ stands {J} {r} F ok st (gives_up f c h) = formed_stands J _ f
 stands {J} {r} F ok st (marks f k c l a) =
     (leaf (mark (length r.marks)) ∷ drop k st.0, stood_mark {r = counted r} F (counted_ok ok) st.1 _ k)
 
-begin_stands : (J : Job) → Stands J (begin J)
+pub begin_stands : (J : Job) → Stands J (begin J)
 unfolding begin first_run
 begin_stands J = go (J.depth_fits 1)
   where
     go : (b : Bool) → Stands J (need b OutOfDepth (first_run J) (arrive J (first_run J)))
     go true = arrive_keeps (Stands J) J (first_run J) ([], bare) (λ l. ([], bare)) tt (λ l. tt)
     go false = tt
-
--- every accepted run of a job over passing tables, early or not, has a derivation at its root
-pub run_stands : {J : Job} → Fits J → (n : ℕ) → StaysOK J (drive J n) × Stands J (drive J n)
-unfolding drive
-run_stands {J} F n =
-    run_keeps (λ o. StaysOK J o × Stands J o) J (λ r h. (stays F h.0 (does J F r h.0), stands F h.0 h.1 (does J F r h.0))) (λ r h. (tt, tt)) n (begin J)
-    (begins_ok J, begin_stands J)

@@ -1,6 +1,6 @@
 -- 20 to 23 are given exactly where a limit cuts the run: the run without limits never gives them, and the step at which a run is cut,
 -- and the demand that cuts it, are the first ones.
-use Rattle.std.specs.Prelude.{◌≡◌, refl, ◌↔◌, true, false, List, ◌∷◌, ℕ, ◌≤◌, ◌<◌, eqb}
+use Rattle.std.specs.Prelude.{◌≡◌, refl, ◌↔◌, true, false, List, [], ◌∷◌, ℕ, ◌≤◌, ◌<◌, eqb}
 use Rattle.std.proofs.Common.{sym, ap, ◌∙◌, subst, true≢false, arith}
 use Rattle.std.proofs.Math.Decide.{dec_lt}
 use Rattle.words.specs.Laws.{pick_case}
@@ -91,6 +91,7 @@ cut_of J budget a r big e (Driven.cut_after k s b h less fit at stop same) =
     CutBy.cut_after k s h less fit at (subst (λ (x : Answer). StopsAt J x (demands J s)) p stop) q
 
 one_limit : (J : Job) (a b : Answer) (ds : List Demand) → StopsAt J a ds → StopsAt J b ds → a ≡ b
+one_limit J a b [] x y = elim x [ ]
 one_limit J a b (d ∷ ds) (StopsAt.here e l) (StopsAt.here f m) = sym l ∙ m
 one_limit J a b (d ∷ ds) (StopsAt.here e l) (StopsAt.later f m) = absurd (true≢false (sym f ∙ e))
 one_limit J a b (d ∷ ds) (StopsAt.later e l) (StopsAt.here f m) = absurd (true≢false (sym e ∙ f))

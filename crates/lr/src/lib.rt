@@ -1,3 +1,2 @@
-// The theory of the rules: see specs/. This crate has no functions.
+// The theory of the rules: see specs/ and proofs/. This crate has no functions.
 #![tactic(auto)]
-

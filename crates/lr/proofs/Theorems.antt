@@ -19,12 +19,15 @@ use Rattle.rules.specs.declared.Answer.TheVariants.{Accepted, AcceptedEarly, Unr
 use Rattle.lr.specs.Checked.{Laws, laws, Enters}
 use Rattle.lr.specs.Refusals.{test_of, places_of, Refusal, refused_exactly, passes_exactly, one_refusal}
 use Rattle.lr.specs.Invariant.{Fits, Carries, Reaches, Ends, drive_ends}
-use Rattle.lr.specs.Impossible.{look_states, look_in, CellSafe, Placed, Goes, Safe, always_safe}
+use Rattle.lr.specs.Impossible.{look_states, look_in, CellSafe, Placed, Goes, Safe}
+use Rattle.lr.proofs.Impossible.{always_safe}
 use Rattle.lr.specs.Stands.{kind_in}
-use Rattle.lr.specs.Sound.{in_order, Derivation, sound, plain_fits}
+use Rattle.lr.specs.Sound.{in_order, Derivation}
+use Rattle.lr.proofs.Sound.{sound, plain_fits}
 use Rattle.lr.specs.Small.{SmallAccepts}
-use Rattle.lr.specs.Complete.{complete, one_tree, derivation_small, small_plain}
-use Rattle.lr.specs.NoMark.{UserKinds, SameTree, same_tree, freed, freed_call}
+use Rattle.lr.proofs.Complete.{complete, one_tree, derivation_small, small_plain}
+use Rattle.lr.specs.NoMark.{UserKinds, SameTree, freed, freed_call}
+use Rattle.lr.proofs.NoMark.{same_tree}
 use Rattle.lr.specs.Runs.{walk, looks, units_of, Reached, nineteen, nineteen_uses_all, units_drive}
 use Rattle.lr.specs.Limits.{Driven, driven, demands, Ascending, ascending, AtLeast, roomier_call, more_room}
 use Rattle.lr.specs.Stopped.{CutBy, limits_exactly}
@@ -35,7 +38,8 @@ use Rattle.lr.specs.Steps.{NoLimit}
 use Rattle.lr.specs.Search.{Leads, FirstPair, NoneLeft, MarkAt, places_mark, gives_up}
 use Rattle.lr.specs.Written.{Written, written, node_from, nodes_back}
 use Rattle.lr.specs.Recovered.{reached_reaches, reaches_reached}
-use Rattle.lr.specs.Accounted.{Accounted, accepted_accounts, early_accounts, answered_run, reads_user_kinds}
+use Rattle.lr.specs.Accounted.{Accounted, answered_run, reads_user_kinds}
+use Rattle.lr.proofs.Accounted.{accepted_accounts, early_accounts}
 
 -- ---- 1. "The check, in this order, lowest place first"
 
