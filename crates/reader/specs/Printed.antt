@@ -1,10 +1,9 @@
 -- What the program prints for a file, by what the reader gives of it: a refusal's line, or the reply of a call on the payloads, whose
 -- tokens are widened.
-use Rattle.std.specs.Prelude.{List, ◌≡◌, refl, ℕ, ◌*◌, ◌/◌, ◌≤◌, length, take}
-use Rattle.std.proofs.Common.{sym, ap, ◌∙◌}
-use Rattle.rules.specs.Tables.{Tables}
+use Rattle.std.specs.Prelude.{List, ◌≡◌, ℕ, ◌*◌, ◌/◌, ◌≤◌, length, take}
+use Rattle.std.proofs.Common.{ap, ◌∙◌}
 use Rattle.rules.specs.Answers.{parse_reply}
-use Rattle.rules.specs.File.{file_of, part_of, tables_of, file_reply, program_limits, refused_line, show_reply, show_file, printed}
+use Rattle.rules.specs.File.{file_of, tables_of, file_reply, program_limits, refused_line, show_reply, show_file, printed}
 use Rattle.reader.specs.declared.Payloads.{Payloads}
 use Rattle.reader.specs.declared.ReadFile.{ReadFile}
 use Rattle.reader.specs.Reading.{parts_of, filed_of}
