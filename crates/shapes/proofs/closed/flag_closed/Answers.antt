@@ -1,6 +1,5 @@
 -- `shapes::closed::flag_closed` is the spec's disjunction: `all_nullable` is its first part, and the flag its second.
 -- Assumes nothing.
-use borrow.Author.Rules.{rules}
 use borrow.Author.Tests.{not-false, not-true}
 use Rattle.shapes.specs.Productions.{flag_closed}
 use Rattle.std.proofs.lemmas.Bool.{not_from_false, not_from_true}

@@ -1,6 +1,5 @@
 -- `shapes::closed::kind_closed` is the spec's disjunction: `begins_with` is its first part, and `in_set` its second.
 -- Assumes nothing.
-use borrow.Author.Rules.{rules}
 use borrow.Author.Tests.{not-false, not-true}
 use Rattle.shapes.specs.Productions.{kind_closed}
 use Rattle.std.proofs.lemmas.Bool.{not_from_false, not_from_true}

@@ -1,12 +1,9 @@
 -- `shapes::closed::kinds_closed` tests the kinds in order. The loop's invariant: those passed are closed.
 -- Assumes nothing.
-use borrow.Author.Rules.{rules}
 use mathlib.Core.Bool.{true}
-use mathlib.Core.Path.{◌≡◌, sym}
-use Prim.Native.Nat.{◌+◌, ◌-◌, ◌<◌, ◌≤◌}
-use native.Mathlib.Omega.{arith}
+use mathlib.Core.Path.{◌≡◌}
+use Prim.Native.Nat.{◌+◌, ◌-◌, ◌≤◌}
 use Rattle.rules.specs.Basics.{all_below}
-use Rattle.tables.specs.Places.{below_fails, below_none, below_turn}
 use Rattle.shapes.specs.Productions.{kind_closed}
 use Rattle.shapes.proofs.closed.kinds_closed.Given as goal
 

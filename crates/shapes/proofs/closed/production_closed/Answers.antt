@@ -1,6 +1,5 @@
 -- `shapes::closed::production_closed` is the spec's conjunction at the numbers read: the flag, then every kind.
 -- Assumes nothing.
-use borrow.Author.Rules.{rules}
 use borrow.Author.Tests.{not-false, not-true}
 use Rattle.shapes.specs.Productions.{production_closed}
 use Rattle.std.proofs.lemmas.Bool.{not_from_false, not_from_true}

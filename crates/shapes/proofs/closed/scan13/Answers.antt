@@ -1,6 +1,5 @@
 -- `shapes::closed::scan13` is `scan_closed` at the sizes that it reads; what 10 gives keeps the kinds few.
 -- Assumes nothing.
-use borrow.Author.Rules.{rules}
 use Rattle.rules.specs.Tables.{kinds, production_count}
 use Rattle.shapes.specs.Productions.{found_closed, kinds_small}
 use Rattle.shapes.proofs.closed.scan13.Goals as goal

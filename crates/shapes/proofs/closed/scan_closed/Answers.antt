@@ -1,13 +1,11 @@
 -- `shapes::closed::scan_closed` looks at the productions in order. The loop's invariant: where the right side starts, and that
 -- what is left gives the place.
 -- Assumes nothing.
-use borrow.Author.Rules.{rules}
-use mathlib.Core.Path.{◌∙◌, ◌≡◌, refl, sym}
-use Prim.Native.Nat.{◌*◌, ◌-◌, ◌≤◌}
+use mathlib.Core.Path.{◌∙◌, refl, sym}
 use native.Mathlib.Omega.{arith}
-use Rattle.tables.specs.Places.{bad_here, bad_none, bad_start, bad_turn, first_bad}
+use Rattle.tables.specs.Places.{bad_here, bad_none, bad_start, bad_turn}
 use Rattle.tables.specs.Rights.{start_more, start_in}
-use Rattle.shapes.specs.Productions.{closed_here, closed_at}
+use Rattle.shapes.specs.Productions.{closed_here}
 use Rattle.std.proofs.lemmas.Bool.{not_from_false, not_from_true}
 use Rattle.shapes.proofs.closed.scan_closed.Goals as goal
 

@@ -1,13 +1,11 @@
 -- `shapes::closed::scan_closed` looks at the productions in order. The loop's invariant: where the right side starts, and that
 -- what is left gives the place.
 -- Assumes nothing.
-use borrow.Author.Rules.{rules}
-use mathlib.Core.Path.{◌∙◌, ◌≡◌, refl, sym}
+use mathlib.Core.Path.{◌≡◌}
 use Prim.Native.Nat.{◌*◌, ◌-◌, ◌≤◌}
-use native.Mathlib.Omega.{arith}
-use Rattle.tables.specs.Places.{bad_here, bad_none, bad_start, bad_turn, first_bad}
-use Rattle.tables.specs.Rights.{start_more, start_in}
-use Rattle.shapes.specs.Productions.{closed_here, closed_at}
+use Rattle.tables.specs.Places.{first_bad}
+use Rattle.tables.specs.Rights.{start_in}
+use Rattle.shapes.specs.Productions.{closed_at}
 use Rattle.shapes.proofs.closed.scan_closed.Given as goal
 
 abbrev pub invariant-loop-p : goal.invariant-loop-p

@@ -1,6 +1,5 @@
 -- `shapes::entries::cell_count` is the number of all cells: 16-bit sizes keep it far below 2 ^ 64.
 -- Assumes nothing.
-use borrow.Author.Rules.{rules}
 use Prim.Native.Nat.{◌+◌}
 use native.Mathlib.Omega.{arith}
 use Rattle.tables.specs.Readers.{row_lt}

@@ -1,6 +1,5 @@
 -- `shapes::entries::cell_fits` is the test at a place: an action below their number, a goto from there on.
 -- Assumes nothing.
-use borrow.Author.Rules.{rules}
 use Prim.Native.Nat.{◌+◌}
 use native.Mathlib.Omega.{arith}
 use Rattle.tables.specs.Readers.{row_lt}

@@ -1,6 +1,5 @@
 -- `shapes::entries::goto_fits` is the spec's case on the cell, arm by arm.
 -- Assumes nothing.
-use borrow.Author.Rules.{rules}
 use Rattle.shapes.proofs.entries.goto_fits.Goals as goal
 
 pub returns-in-Shift : goal.returns-in-Shift

@@ -1,6 +1,5 @@
 -- `shapes::entries::scan11` is `scan_cells` at the sizes that it reads; what 10 gives keeps the number of cells small.
 -- Assumes nothing.
-use borrow.Author.Rules.{rules}
 use Rattle.rules.specs.Tables.{kinds, nonterminals, production_count, states}
 use Rattle.shapes.specs.Cells.{cells_few, found_cell}
 use Rattle.shapes.proofs.entries.scan11.Goals as goal

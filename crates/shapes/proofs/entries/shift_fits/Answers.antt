@@ -1,6 +1,5 @@
 -- `shapes::entries::shift_fits` is the spec's conjunction: its first part by `enters`, its second by the comparison.
 -- Assumes nothing.
-use borrow.Author.Rules.{rules}
 use borrow.Author.Tests.{not-false, not-true}
 use Rattle.std.proofs.lemmas.Bool.{not_from_false, not_from_true}
 use Rattle.shapes.proofs.entries.shift_fits.Goals as goal

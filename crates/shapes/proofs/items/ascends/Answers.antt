@@ -1,6 +1,5 @@
 -- `shapes::items::ascends` is `before` at the numbers that it reads.
 -- Assumes nothing.
-use borrow.Author.Rules.{rules}
 use Rattle.shapes.proofs.items.ascends.Goals as goal
 
 pub returns : goal.returns

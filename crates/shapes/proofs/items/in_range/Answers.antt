@@ -1,6 +1,5 @@
 -- `shapes::items::in_range` is the spec's four tests, each by its branch.
 -- Assumes nothing.
-use borrow.Author.Rules.{rules}
 use Rattle.words.proofs.Rules.{tests}
 use Rattle.shapes.specs.Items.{in_range}
 use Rattle.shapes.proofs.items.in_range.Goals as goal

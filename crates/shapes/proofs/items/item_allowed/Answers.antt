@@ -1,6 +1,5 @@
 -- `shapes::items::item_allowed` is the spec's conjunction: the range, and from the second item on the order.
 -- Assumes nothing.
-use borrow.Author.Rules.{rules}
 use borrow.Author.Tests.{eq-eqb, ne_eqb, not-false, not-true}
 use Rattle.shapes.specs.Items.{item_allowed}
 use Rattle.std.proofs.lemmas.Bool.{not_from_false, not_from_true}

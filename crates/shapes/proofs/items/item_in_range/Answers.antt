@@ -1,6 +1,5 @@
 -- `shapes::items::item_in_range` is `in_range` at the numbers that it reads.
 -- Assumes nothing.
-use borrow.Author.Rules.{rules}
 use Rattle.shapes.specs.Items.{range_at}
 use Rattle.shapes.proofs.items.item_in_range.Goals as goal
 

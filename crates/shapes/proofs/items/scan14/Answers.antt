@@ -1,6 +1,5 @@
 -- `shapes::items::scan14` is `scan_items` at the sizes that it reads.
 -- Assumes nothing.
-use borrow.Author.Rules.{rules}
 use Rattle.rules.specs.Tables.{item_count, kinds, production_count, states}
 use Rattle.shapes.specs.Items.{found_item}
 use Rattle.shapes.proofs.items.scan14.Goals as goal

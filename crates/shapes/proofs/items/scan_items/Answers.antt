@@ -1,12 +1,8 @@
 -- `shapes::items::scan_items` looks at the items in order. The loop's invariant: what is left gives the place.
 -- Assumes nothing.
-use borrow.Author.Rules.{rules}
-use mathlib.Core.Path.{◌∙◌, ◌≡◌, sym}
-use Prim.Native.Nat.{◌-◌, ◌≤◌}
+use mathlib.Core.Path.{◌∙◌, sym}
 use native.Mathlib.Omega.{arith}
-use Rattle.rules.specs.Tables.{states}
-use Rattle.tables.specs.Places.{bad_here, bad_none, bad_start, bad_turn, first_bad}
-use Rattle.shapes.specs.Items.{item_allowed}
+use Rattle.tables.specs.Places.{bad_here, bad_none, bad_start, bad_turn}
 use Rattle.std.proofs.lemmas.Bool.{not_from_false, not_from_true}
 use Rattle.shapes.proofs.items.scan_items.Goals as goal
 

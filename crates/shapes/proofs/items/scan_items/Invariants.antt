@@ -1,11 +1,8 @@
 -- `shapes::items::scan_items` looks at the items in order. The loop's invariant: what is left gives the place.
 -- Assumes nothing.
-use borrow.Author.Rules.{rules}
-use mathlib.Core.Path.{◌∙◌, ◌≡◌, sym}
+use mathlib.Core.Path.{◌≡◌}
 use Prim.Native.Nat.{◌-◌, ◌≤◌}
-use native.Mathlib.Omega.{arith}
-use Rattle.rules.specs.Tables.{states}
-use Rattle.tables.specs.Places.{bad_here, bad_none, bad_start, bad_turn, first_bad}
+use Rattle.tables.specs.Places.{first_bad}
 use Rattle.shapes.specs.Items.{item_allowed}
 use Rattle.shapes.proofs.items.scan_items.Given as goal
 

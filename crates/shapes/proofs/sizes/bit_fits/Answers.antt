@@ -1,6 +1,5 @@
 -- `shapes::sizes::bit_fits` is the spec's disjunction: a kind up to t by the branch, another by `in_set`.
 -- Assumes nothing.
-use borrow.Author.Rules.{rules}
 use borrow.Author.Tests.{le-leb, lt-leb}
 use Rattle.shapes.specs.Sizes.{bit_fits}
 use Rattle.shapes.proofs.sizes.bit_fits.Goals as goal

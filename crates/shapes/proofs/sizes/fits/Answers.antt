@@ -1,6 +1,5 @@
 -- `shapes::sizes::fits` is the rules' 10 by its three parts: the numbers, the lengths, and the sets.
 -- Assumes nothing.
-use borrow.Author.Rules.{rules}
 use borrow.Author.Tests.{not-false, not-true}
 use Rattle.rules.specs.Tables.{item_count, kinds, nonterminals, production_count, states}
 use Rattle.shapes.specs.Sizes.{fits_same}

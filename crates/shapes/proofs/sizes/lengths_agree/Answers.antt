@@ -1,6 +1,5 @@
 -- `shapes::sizes::lengths_agree` is the spec's conjunction, call by call; short right sides keep their sum small.
 -- Assumes nothing.
-use borrow.Author.Rules.{rules}
 use borrow.Author.Tests.{not-false, not-true}
 use mathlib.Core.Bool.{true}
 use mathlib.Core.Path.{◌∙◌, ◌≡◌, sym}

@@ -1,6 +1,5 @@
 -- `shapes::sizes::lists_agree` is the spec's three tests, each by its branch.
 -- Assumes nothing.
-use borrow.Author.Rules.{rules}
 use borrow.Author.Tests.{eq-eqb, ne_eqb}
 use Rattle.shapes.specs.Sizes.{lists_agree}
 use Rattle.shapes.proofs.sizes.lists_agree.Goals as goal

@@ -1,6 +1,5 @@
 -- `shapes::sizes::numbers_fit` is the spec's conjunction: the length, and `sizes_fit` at the numbers read.
 -- Assumes nothing.
-use borrow.Author.Rules.{rules}
 use borrow.Author.Tests.{eq-eqb, ne_eqb}
 use Rattle.shapes.specs.Sizes.{numbers_fit}
 use Rattle.shapes.proofs.sizes.numbers_fit.Goals as goal

@@ -1,6 +1,5 @@
 -- `shapes::sizes::scan10` is the one place of 10, by `fits`.
 -- Assumes nothing.
-use borrow.Author.Rules.{rules}
 use mathlib.Core.Path.{sym}
 use Rattle.shapes.specs.Sizes.{found_none, found_sizes}
 use Rattle.shapes.proofs.sizes.scan10.Goals as goal

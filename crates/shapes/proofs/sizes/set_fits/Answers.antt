@@ -1,6 +1,5 @@
 -- `shapes::sizes::set_fits` is the spec's conjunction: the nullable flag, then every bit.
 -- Assumes nothing.
-use borrow.Author.Rules.{rules}
 use borrow.Author.Tests.{le-leb, lt-leb}
 use Rattle.shapes.specs.Sizes.{set_in}
 use Rattle.shapes.proofs.sizes.set_fits.Goals as goal

@@ -1,6 +1,5 @@
 -- `shapes::sizes::size_short` is the spec's test of the length that `word16` reads.
 -- Assumes nothing.
-use borrow.Author.Rules.{rules}
 use Rattle.shapes.specs.Sizes.{short_at}
 use Rattle.shapes.proofs.sizes.size_short.Goals as goal
 

@@ -1,6 +1,5 @@
 -- `shapes::sizes::sizes_fit` is the spec's conjunction: a range after the other, and no 16-bit number of items is too large.
 -- Assumes nothing.
-use borrow.Author.Rules.{rules}
 use borrow.Author.Tests.{le-leb, not-false, not-true}
 use Prim.Native.Nat.{◌≤◌}
 use native.Mathlib.Omega.{arith}

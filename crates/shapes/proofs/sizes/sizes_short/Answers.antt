@@ -1,13 +1,8 @@
 -- `shapes::sizes::sizes_short` tests the productions in order. The loop's invariant: those passed are short.
 -- Assumes nothing.
-use borrow.Author.Rules.{rules}
-use mathlib.Core.Bool.{true}
 use mathlib.Core.Path.{◌≡◌, sym}
-use Prim.Native.Nat.{◌-◌, ◌≤◌}
 use native.Mathlib.Omega.{arith}
-use Rattle.rules.specs.Basics.{all_below}
 use Rattle.tables.specs.Places.{below_fails, below_none, below_turn}
-use Rattle.shapes.specs.Sizes.{short_at}
 use Rattle.std.proofs.lemmas.Bool.{not_from_false, not_from_true}
 use Rattle.shapes.proofs.sizes.sizes_short.Goals as goal
 

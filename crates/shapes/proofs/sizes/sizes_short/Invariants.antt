@@ -1,12 +1,9 @@
 -- `shapes::sizes::sizes_short` tests the productions in order. The loop's invariant: those passed are short.
 -- Assumes nothing.
-use borrow.Author.Rules.{rules}
 use mathlib.Core.Bool.{true}
-use mathlib.Core.Path.{◌≡◌, sym}
+use mathlib.Core.Path.{◌≡◌}
 use Prim.Native.Nat.{◌-◌, ◌≤◌}
-use native.Mathlib.Omega.{arith}
 use Rattle.rules.specs.Basics.{all_below}
-use Rattle.tables.specs.Places.{below_fails, below_none, below_turn}
 use Rattle.shapes.specs.Sizes.{short_at}
 use Rattle.shapes.proofs.sizes.sizes_short.Given as goal
 

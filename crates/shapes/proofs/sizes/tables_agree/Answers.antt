@@ -1,6 +1,5 @@
 -- `shapes::sizes::tables_agree` is the spec's three tests, each by its branch; 16-bit sizes keep the products small.
 -- Assumes nothing.
-use borrow.Author.Rules.{rules}
 use borrow.Author.Tests.{eq-eqb, ne_eqb}
 use Prim.Native.Nat.{◌+◌}
 use native.Mathlib.Omega.{arith}

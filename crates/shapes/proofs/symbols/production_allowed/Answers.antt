@@ -1,6 +1,5 @@
 -- `shapes::symbols::production_allowed` is the spec's conjunction at the numbers read: the left side, then every symbol.
 -- Assumes nothing.
-use borrow.Author.Rules.{rules}
 use borrow.Author.Tests.{not-false, not-true}
 use Rattle.shapes.specs.Productions.{production_allowed}
 use Rattle.std.proofs.lemmas.Bool.{not_from_false, not_from_true}

@@ -1,6 +1,5 @@
 -- `shapes::symbols::scan12` is `scan_allowed` at the sizes that it reads.
 -- Assumes nothing.
-use borrow.Author.Rules.{rules}
 use Rattle.rules.specs.Tables.{kinds, nonterminals, production_count}
 use Rattle.shapes.specs.Productions.{found_allowed}
 use Rattle.shapes.proofs.symbols.scan12.Goals as goal

@@ -1,14 +1,11 @@
 -- `shapes::symbols::scan_allowed` looks at the productions in order. The loop's invariant: where the right side starts, and that
 -- what is left gives the place.
 -- Assumes nothing.
-use borrow.Author.Rules.{rules}
-use mathlib.Core.Path.{◌∙◌, ◌≡◌, refl, sym}
-use Prim.Native.Nat.{◌*◌, ◌-◌, ◌≤◌}
+use mathlib.Core.Path.{◌∙◌, refl, sym}
 use native.Mathlib.Omega.{arith}
-use Rattle.rules.specs.Tables.{nonterminals}
-use Rattle.tables.specs.Places.{bad_here, bad_none, bad_start, bad_turn, first_bad}
+use Rattle.tables.specs.Places.{bad_here, bad_none, bad_start, bad_turn}
 use Rattle.tables.specs.Rights.{start_more, start_in}
-use Rattle.shapes.specs.Productions.{allowed_here, allowed_at}
+use Rattle.shapes.specs.Productions.{allowed_here}
 use Rattle.std.proofs.lemmas.Bool.{not_from_false, not_from_true}
 use Rattle.shapes.proofs.symbols.scan_allowed.Goals as goal
 

@@ -1,6 +1,5 @@
 -- `shapes::symbols::symbol_allowed` is the spec's two tests, each by its branch.
 -- Assumes nothing.
-use borrow.Author.Rules.{rules}
 use Rattle.words.proofs.Rules.{tests}
 use Rattle.shapes.specs.Productions.{symbol_allowed}
 use Rattle.shapes.proofs.symbols.symbol_allowed.Goals as goal

@@ -1,14 +1,9 @@
 -- `shapes::symbols::symbols_allowed` tests the symbols in order. The loop's invariant: those passed are allowed.
 -- Assumes nothing.
-use borrow.Author.Rules.{rules}
-use mathlib.Core.Bool.{true}
 use mathlib.Core.Path.{◌≡◌, sym}
-use Prim.Native.Nat.{◌-◌, ◌≤◌}
 use native.Mathlib.Omega.{arith}
-use Rattle.rules.specs.Basics.{all_below}
-use Rattle.rules.specs.Tables.{nonterminals}
 use Rattle.tables.specs.Places.{below_fails, below_none, below_turn}
-use Rattle.shapes.specs.Productions.{allowed_read, symbol_allowed_at}
+use Rattle.shapes.specs.Productions.{allowed_read}
 use Rattle.std.proofs.lemmas.Bool.{not_from_false, not_from_true}
 use Rattle.shapes.proofs.symbols.symbols_allowed.Goals as goal
 

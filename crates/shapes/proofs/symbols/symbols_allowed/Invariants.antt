@@ -1,14 +1,10 @@
 -- `shapes::symbols::symbols_allowed` tests the symbols in order. The loop's invariant: those passed are allowed.
 -- Assumes nothing.
-use borrow.Author.Rules.{rules}
 use mathlib.Core.Bool.{true}
-use mathlib.Core.Path.{◌≡◌, sym}
+use mathlib.Core.Path.{◌≡◌}
 use Prim.Native.Nat.{◌-◌, ◌≤◌}
-use native.Mathlib.Omega.{arith}
 use Rattle.rules.specs.Basics.{all_below}
-use Rattle.rules.specs.Tables.{nonterminals}
-use Rattle.tables.specs.Places.{below_fails, below_none, below_turn}
-use Rattle.shapes.specs.Productions.{allowed_read, symbol_allowed_at}
+use Rattle.shapes.specs.Productions.{symbol_allowed_at}
 use Rattle.shapes.proofs.symbols.symbols_allowed.Given as goal
 
 abbrev pub invariant-loop-d : goal.invariant-loop-d

@@ -1,6 +1,5 @@
 -- `shapes::tokens::kind_fits` is the spec's test of the word that `word32` reads.
 -- Assumes nothing.
-use borrow.Author.Rules.{rules}
 use Rattle.shapes.specs.Tokens.{kind_fits}
 use Rattle.shapes.proofs.tokens.kind_fits.Goals as goal
 

@@ -1,6 +1,5 @@
 -- `shapes::tokens::tokens_fit` is the rules' 18: whole triples, not too many, and each kind by `kinds_fit`.
 -- Assumes nothing.
-use borrow.Author.Rules.{rules}
 use borrow.Author.Tests.{eq-eqb, le-leb}
 use Rattle.std.proofs.Common.{length, ◌/◌, arith}
 use Rattle.rules.specs.Check.{ok18}
