@@ -30,6 +30,7 @@ fn kinds_fit(tokens: &[u8], n: usize) -> bool
     true
 }
 
+#[tactic(auto, unfolding(rules::specs::Check::ok18))]
 pub fn tokens_fit(tokens: &[u8]) -> bool
     ensures { result ≡ ok18 tokens.now }
 {
