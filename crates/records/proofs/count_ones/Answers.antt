@@ -3,11 +3,7 @@
 use borrow.Author.Rules.{rules}
 use mathlib.Core.Path.{refl}
 use lib.Count.{ones-le}
-use Rattle.records.proofs.count_ones.Statement.{statement}
-use Rattle.records.proofs.count_ones.Tie as tie
+use Rattle.records.proofs.count_ones.Goals as goal
 
-returns : tie.Need-returns
+pub returns : goal.returns
 returns c = (refl, ones-le 32 _ (search rules))
-
-pub count-ones-spec : {M : Type 1} → statement M
-count-ones-spec = tie.close (tie.spec returns)
