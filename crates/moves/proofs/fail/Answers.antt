@@ -1,0 +1,17 @@
+-- `moves::fail` goes by the flag: with recovery the error is kept for the column mode, and without it is the answer.
+-- Assumes nothing.
+use Rattle.model.specs.Model.{fail}
+use Rattle.moves.proofs.fail.Goals as goal
+
+pub returns-then-recovers : goal.returns-then-recovers
+unfolding fail
+returns-then-recovers c = λ C tokens stack scratch nodes children records m. rw (m.flag_is, c.if-recovers.true, c.failing.ensures)
+
+pub returns : goal.returns
+unfolding fail
+returns c = λ C tokens stack scratch nodes children records m. rw (
+  m.flag_is,
+  c.if-recovers.false,
+  c.ended.ensures,
+  c.answer_of.ensures,
+)

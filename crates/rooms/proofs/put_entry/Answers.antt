@@ -1,0 +1,8 @@
+-- `rooms::put_entry` writes the eight words of a stack entry, the kind and number of what it stands for among them.
+-- Assumes nothing.
+use Rattle.model.specs.Bytes.{put_entry}
+use Rattle.rooms.proofs.put_entry.Goals as goal
+
+pub returns : goal.returns
+unfolding put_entry
+returns c = cc
