@@ -2,17 +2,19 @@
 -- A popped part and a rest stand for `take` and `drop`, so that nothing here speaks of the production's length.
 use Rattle.std.specs.Prelude.{◌≡◌, ltb}
 use Rattle.std.proofs.Math.Path.{refl, sym, ap}
-use mathlib.Core.List.{List, [], ◌++◌, append-nil}
+use mathlib.Core.List.{List, [], ◌∷◌, ◌++◌, append-nil}
 use Prim.Native.Nat.{ℕ, ◌+◌, ◌*◌, ◌-◌, ◌/◌, ◌<◌, ◌≤◌, min}
 use Rattle.std.proofs.Common.{arith, length-take, length-append}
 use Rattle.std.proofs.Math.ListN.{length, take, drop, length-drop, take-append-drop}
+use Rattle.std.proofs.lemmas.List.Edits.{sets}
 use Rattle.words.specs.Laws.{pick_case}
 use Rattle.rules.specs.declared.Entry.{Entry}
 use Rattle.rules.specs.declared.StateNo.{StateNo}
 use Rattle.rules.specs.declared.Answer.TheVariants.{OutOfDepth, OutOfChildren, OutOfNodes}
 use Rattle.rules.specs.Tables.{left, size}
-use Rattle.rules.specs.Driving.{Mode, main, Run, end_or, nodes_of, grow}
+use Rattle.rules.specs.Driving.{Mode, main, Run, end_or, child_of, nodes_of, grow}
 use Rattle.rules.specs.Driving
+use Rattle.rules.specs.Answers.{bytes_of}
 use Rattle.model.specs.declared.Mode.TheVariants.{Main}
 use Rattle.model.specs.Model.{Call}
 use Rattle.model.specs.Model
@@ -22,7 +24,7 @@ use Rattle.refine.specs.Stack.{Small, StackHolds, top_at_law, end_at_law, end_at
 use Rattle.refine.specs.Tokens.{Rooms, Fit, job_for, token_at_law, length_tokens, word32_small, goto_fits_law}
 use Rattle.refine.specs.Holds.{Beside, beside_of, st_of, world_at, Kept, ModeKept, Related, goes, need_fits}
 use Rattle.refine.specs.Arrive.{kept_advanced, arrive_holds}
-use Rattle.refine.specs.Push.{child_of_law, children_more, grown_is, grow_kept}
+use Rattle.refine.specs.Push.{rooms_over, child_of_law, children_more, grown_is, grow_kept}
 
 module _ {C : Call} {b : Rooms} {u : ℕ} (F : Fit C b) {x : Rooms} {r : Run} (K : Kept C b u r x) where
   -- ---- the entries
@@ -126,9 +128,10 @@ module _ {C : Call} {b : Rooms} {u : ℕ} (F : Fit C b) {x : Rooms} {r : Run} (a
       let k : length kids + length rest ≤ length r.stack = rw (q, l, length-append) (omega arith) in
       let ch = children_more K kids (rw q c) in
       let re = rw (← append-nil r.marks) at K.records in
+      let y : Rooms = rooms_over x (length rest) e (length r.nodes) (child_of (length r.children) kids) (length kids) (sets x.children (4 * length r.children) (bytes_of kids)) x.records in
       let K' = grow_kept F K rest e kids [] m _ x.records (stack_below popped rest x.stack H) (production_small F K popped rest H l p pf (omega arith)) d n room small k (omega arith) (nodes_fit_law popped rest x.stack H) (rw append-nil K.sized.records_fit_law) ch re in
       rw (production_entry_law F K popped rest H l (beside_of m a) p, copy_words popped rest x.stack x.children (length r.children) H, ← q, child_of_law, grown_is r (beside_of m a) rest e kids [] r.next m (beside_of m a).mode)
-      (goes (record { rooms = _; beside = a; is = refl; kept = K'; mode = M _ _ }))
+      (goes (record { rooms = y; beside = a; is = refl; kept = K'; mode = M y (e ∷ rest) }))
 
   reduce_over_holds : (p : ℕ) (popped rest : List Entry) (m : Mode) → Word p → StackHolds x.stack (popped ++ rest) → length r.stack ≡ length (popped ++ rest) → ((y : Rooms) (l : List Entry) → ModeKept C y l a m) → Related C b u (Driving.reduce_over (job_for C b) r p popped rest m) (Model.reduce_over C (world_at x (st_of r (beside_of m a))) p (length popped) (length rest))
   unfolding Driving.reduce_over Model.reduce_over
