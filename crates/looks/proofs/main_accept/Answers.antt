@@ -1,0 +1,14 @@
+-- `looks::main_accept` ends the run over production 0: accepted at the end of input, and else an extra token.
+-- Assumes nothing.
+use Rattle.model.specs.Model.{main_reduce, root_at}
+use Rattle.moves.specs.Serving.{has_token_law, no_token_law}
+use Rattle.looks.specs.Deciding.{on_act}
+use Rattle.looks.proofs.main_accept.Goals as goal
+
+pub returns-then-next-count : goal.returns-then-next-count
+unfolding main_reduce on_act
+returns-then-next-count c = (tt, λ C tokens scratch nodes children records m. rw (has_token_law m _ c.if-next-count.true))
+
+pub returns : goal.returns
+unfolding main_reduce on_act root_at
+returns c = (tt, λ C tokens scratch nodes children records m. rw (no_token_law m _ c.if-next-count.false, c.root_at.ensures))
