@@ -120,6 +120,7 @@ fn put_kinds(buf: &mut [u8], at: usize, words: &[u8], from: usize) -> usize
 }
 
 // the field that answers 2 to 6 print: their token or location
+#[tactic(auto, using(crate::specs::Lines::place_low, crate::specs::Lines::place_high, crate::specs::Lines::place_one, crate::proofs::Nothing::written_none, crate::proofs::Nothing::behind_none))]
 fn put_place(buf: &mut [u8], at: usize, number: usize, place: usize) -> usize
     ensures { Wrote buf.old at (spaced_all (places_by number place)) buf.new result }
 {
@@ -330,6 +331,7 @@ pub fn tree_line(
 }
 
 // "1 and 2 print the tree"
+#[tactic(auto, using(crate::specs::TreeText::tree_low, crate::specs::TreeText::tree_high, crate::specs::TreeText::tree_shown, crate::proofs::Nothing::written_none, crate::proofs::Nothing::behind_none))]
 fn tree_lines(
     buf: &mut [u8],
     at: usize,

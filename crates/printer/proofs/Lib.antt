@@ -1,0 +1,2 @@
+-- The laws that two functions' goals are closed by.
+pub mod Nothing
