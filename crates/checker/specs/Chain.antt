@@ -1,14 +1,12 @@
 -- What a scan found, as the rules judge it: a place is refused with the scan's number, and where there is none the rest judges.
 -- Each link of the check is proved by these two.
-use Rattle.std.specs.Prelude.{Bool, true, ◌≡◌, ℕ, suc}
-use Rattle.std.proofs.Common.{sym, ◌∙◌}
-use Rattle.words.specs.Words.{pick}
+use Rattle.std.specs.Prelude.{Bool, ◌≡◌, ℕ}
 use Rattle.rules.specs.declared.Verdict.{Verdict}
 use Rattle.rules.specs.declared.Verdict.TheVariants.{Refused}
 use Rattle.rules.specs.Check.{judge}
 use Rattle.tables.specs.declared.Place.{Place}
 use Rattle.tables.specs.declared.Place.TheVariants.{At, Nowhere}
-use Rattle.tables.specs.Places.{first_bad, verdict_at, judge_at}
+use Rattle.tables.specs.Places.{first_bad, judge_at}
 
 module _ (number : ℕ) (ok : ℕ → Bool) (n : ℕ) (rest : Verdict) (found : Place) where
   pub refuses : (i : ℕ) → found ≡ first_bad ok 0 n → found ≡ At i → Refused number i ≡ judge number ok n rest

@@ -1,6 +1,5 @@
 -- `checker::check_cells` is the rules' verdict from 11 on: a place that the scan finds is refused, and where it finds none the rest judges.
 -- Assumes nothing.
-use borrow.Author.Rules.{rules}
 use Rattle.rules.specs.Check.{check11}
 use Rattle.checker.specs.Chain.{refuses, goes_on}
 use Rattle.checker.proofs.check_cells.Goals as goal

@@ -1,6 +1,5 @@
 -- `checker::check_follow_ups` is the rules' verdict from 17 on: a place that the scan finds is refused, and where it finds none the rest judges.
 -- Assumes nothing.
-use borrow.Author.Rules.{rules}
 use mathlib.Core.Path.{refl}
 use Rattle.rules.specs.Check.{check17}
 use Rattle.checker.specs.Chain.{refuses, goes_on}

@@ -1,6 +1,5 @@
 -- `checker::check_order` is the rules' verdict from 14 on: a place that the scan finds is refused, and where it finds none the rest judges.
 -- Assumes nothing.
-use borrow.Author.Rules.{rules}
 use mathlib.Core.Path.{sym, ◌∙◌}
 use Rattle.rules.specs.Check.{check14}
 use Rattle.checker.specs.Chain.{refuses, goes_on}

@@ -1,6 +1,5 @@
 -- `checker::check_origins` is the rules' verdict from 15 on: a place that the scan finds is refused, and where it finds none the rest judges.
 -- Assumes nothing.
-use borrow.Author.Rules.{rules}
 use Rattle.rules.specs.Check.{check15}
 use Rattle.checker.specs.Chain.{refuses, goes_on}
 use Rattle.checker.proofs.check_origins.Goals as goal

@@ -1,6 +1,5 @@
 -- `checker::check_productions` is the rules' verdict from 12 on: a place that the scan finds is refused, and where it finds none the rest judges.
 -- Assumes nothing.
-use borrow.Author.Rules.{rules}
 use Rattle.rules.specs.Check.{check12}
 use Rattle.checker.specs.Chain.{refuses, goes_on}
 use Rattle.checker.proofs.check_productions.Goals as goal
