@@ -1,7 +1,7 @@
 -- The customer's three demands, as they hold of every result that the contract of `chamrolak_parse` admits. Each follows from that
 -- contract (`Leaves` of the rules' reply) and from the theory (`lr`).
-use Rattle.std.specs.Prelude.{Bool, true, false, List, [], ◌++◌, ◌⊎◌, ◌≡◌, refl, ℕ, ◌*◌, ◌≤◌, ◌<◌, length, drop}
-use Rattle.std.proofs.Common.{inl, inr, sym, ◌∙◌, arith}
+use Rattle.std.specs.Prelude.{Bool, true, false, List, ◌++◌, ◌⊎◌, ◌≡◌, refl, ℕ, ◌*◌, ◌≤◌, length, drop}
+use Rattle.std.proofs.Common.{inl, inr, arith}
 use Rattle.words.specs.Words.{pick}
 use Rattle.rules.specs.declared.Answer.{Answer}
 use Rattle.rules.specs.declared.Answer.TheVariants.{Accepted, AcceptedEarly, UnrecognizedToken, UnrecognizedEnd, ExtraToken, TokenizerError, OutOfUnits, OutOfDepth, OutOfChildren, OutOfNodes, OutOfRecords}
@@ -10,11 +10,11 @@ use Rattle.rules.specs.declared.Verdict.TheVariants.{Passes, Refused}
 use Rattle.rules.specs.Tables.{Tables}
 use Rattle.rules.specs.Check.{check, ok18}
 use Rattle.rules.specs.Driving.{Run, Outcome, drive}
-use Rattle.rules.specs.Answers.{Reply, Limits, number_of, value_of, nodes_bytes, records_bytes, bytes_of, job_of, tokens_of, reply_of, drive_reply, after_check, parse_reply}
+use Rattle.rules.specs.Answers.{Reply, Limits, number_of, nodes_bytes, records_bytes, bytes_of, job_of, tokens_of, reply_of, drive_reply, after_check, parse_reply}
 use Rattle.lr.specs.Accounted.{Accounted}
-use Rattle.lr.specs.Theorems.{accepted_call, check_refuses}
+use Rattle.lr.proofs.Theorems.{accepted_call, check_refuses}
 use Rattle.chamrolak.specs.declared.Returned.{Returned}
-use Rattle.chamrolak.specs.Exit.{Lent, limits_in, Leaves, Refusing, Answering}
+use Rattle.chamrolak.specs.Exit.{Lent, limits_in, Leaves}
 
 -- ---- demand 1: "each call ends with an answer of document 01 .. Bad tables are refused .. with buffers untouched"
 

@@ -1,5 +1,5 @@
 -- From the byte model's run to what a call leaves: the refinement, in the words of `Exit`. And the numbers that serve a call.
-use Rattle.std.specs.Prelude.{Bool, true, false, ◌&&◌, List, ◌∷◌, [], ◌++◌, ◌≡◌, refl, ℕ, ◌+◌, ◌*◌, ◌/◌, ◌%◌, ◌<◌, ◌≤◌, ◌^◌, leb, eqb, length, get_or}
+use Rattle.std.specs.Prelude.{true, false, ◌&&◌, List, ◌∷◌, [], ◌≡◌, refl, ℕ, ◌+◌, ◌*◌, ◌/◌, ◌%◌, ◌<◌, ◌≤◌, ◌^◌, leb, eqb, length, get_or}
 use Rattle.std.proofs.Common.{ap, sym, ◌∙◌, arith, leb-true}
 use Rattle.std.proofs.Math.Path.{subst⁻¹}
 use Rattle.words.specs.Words.{get16, word16, word32}
@@ -10,7 +10,7 @@ use Rattle.rules.specs.Basics.{all_below}
 use Rattle.rules.specs.declared.Verdict.TheVariants.{Passes, Refused}
 use Rattle.rules.specs.Check.{check, ok18}
 use Rattle.rules.specs.Driving.{Run}
-use Rattle.rules.specs.Answers.{Reply, number_of, value_of, bytes_of, report_words, counts_of, Limits, after_check, drive_reply, parse_reply, roots_of, places_of, first_of, ones_of, expected_of}
+use Rattle.rules.specs.Answers.{number_of, value_of, bytes_of, report_words, counts_of, Limits, after_check, drive_reply, parse_reply}
 use Rattle.model.specs.declared.St.{St}
 use Rattle.model.specs.Model.{Call, World, begin, run_from}
 use Rattle.moves.specs.Serving.{Reads, Goes, Acts}
