@@ -45,7 +45,21 @@ pub extern "C" fn chamrolak_drive(
 ) -> Returned
     ensures { (rights items sets : List ℕ) → Leaves (call_tables sizes.now actions.now gotos.now productions.now rights items sets) (drive_reply (call_tables sizes.now actions.now gotos.now productions.now rights items sets) tokens.now origin (limits_in (lent stack.old scratch.old nodes.old children.old records.old report.old) budget)) result (lent stack.old scratch.old nodes.old children.old records.old report.old) (lent stack.new scratch.new nodes.new children.new records.new report.new) }
 {
-    chamrolak::chamrolak_drive(sizes, actions, gotos, productions, tokens, origin, budget, stack, scratch, nodes, children, records, report)
+    chamrolak::chamrolak_drive(
+        sizes,
+        actions,
+        gotos,
+        productions,
+        tokens,
+        origin,
+        budget,
+        stack,
+        scratch,
+        nodes,
+        children,
+        records,
+        report,
+    )
 }
 
 // The whole of document 01 in one call: the check, 18, the run.
@@ -70,5 +84,22 @@ pub extern "C" fn chamrolak_parse(
 ) -> Returned
     ensures { Leaves (call_tables sizes.now actions.now gotos.now productions.now rights.now items.now sets.now) (parse_reply (call_tables sizes.now actions.now gotos.now productions.now rights.now items.now sets.now) tokens.now origin (limits_in (lent stack.old scratch.old nodes.old children.old records.old report.old) budget)) result (lent stack.old scratch.old nodes.old children.old records.old report.old) (lent stack.new scratch.new nodes.new children.new records.new report.new) }
 {
-    chamrolak::chamrolak_parse(sizes, actions, gotos, productions, rights, items, sets, tokens, origin, budget, stack, scratch, nodes, children, records, report)
+    chamrolak::chamrolak_parse(
+        sizes,
+        actions,
+        gotos,
+        productions,
+        rights,
+        items,
+        sets,
+        tokens,
+        origin,
+        budget,
+        stack,
+        scratch,
+        nodes,
+        children,
+        records,
+        report,
+    )
 }

@@ -12,7 +12,9 @@ fn main(rt: HostRuntime) -> io::Result<()> {
     let mut file = [0u8; 65537];
     match read_full(&mut rt.stdin(), &mut file) {
         Ok(n) => answer(&rt, &file[..n]),
-        Err(_) => rt.stderr().write_all(b"recipe: standard input could not be read\n"),
+        Err(_) => rt
+            .stderr()
+            .write_all(b"recipe: standard input could not be read\n"),
     }
 }
 
@@ -66,10 +68,14 @@ fn zeros<const N: usize>() -> [u8; N]
 // A place before the buffer's end says that all of the text is there.
 fn print(rt: &HostRuntime, out: &[u8], end: usize) -> io::Result<()> {
     if end >= out.len() {
-        return rt.stderr().write_all(b"recipe: the answer is too long to print\n");
+        return rt
+            .stderr()
+            .write_all(b"recipe: the answer is too long to print\n");
     }
     match rt.stdout().write_all(&out[..end]) {
         Ok(()) => Ok(()),
-        Err(_) => rt.stderr().write_all(b"recipe: standard output could not be written\n"),
+        Err(_) => rt
+            .stderr()
+            .write_all(b"recipe: standard output could not be written\n"),
     }
 }
