@@ -1,13 +1,10 @@
 -- `driver::read_first` tests the depth and reads the first token.
 -- Assumes nothing.
+use Rattle.std.proofs.Common.{◌≤◌, arith}
 use Rattle.model.specs.Model.{begin}
-use Rattle.moves.specs.Serving.{depth_fits_law, too_deep}
+use Rattle.moves.specs.Serving.{depth_fits_law}
 use Rattle.driver.proofs.read_first.Goals as goal
-
-pub returns-then-depth-lt1 : goal.returns-then-depth-lt1
-unfolding begin
-returns-then-depth-lt1 c = λ C m e. rw (too_deep m _ c.if-depth-lt1.true, ← e, c.ended.ensures)
 
 pub returns : goal.returns
 unfolding begin
-returns c = λ C m e. rw (depth_fits_law m _ c.if-depth-lt1.false, ← e) (c.arrive.ensures C m)
+returns c = let d : 1 ≤ c.args.g.depth = omega arith in λ C m e. rw (depth_fits_law m _ d, ← e) (c.arrive.ensures C m)

@@ -65,7 +65,7 @@ loop-left-preserved c = let x = c.args in
     going_on x.g x.actions.now x.gotos.now x.productions.now x.tokens.now x.stack.now x.scratch.now
     x.nodes.now x.children.now x.records.now x.st x.budget l.stack l.scratch l.nodes
     l.children l.records l.s l.left q.new.stack q.new.scratch q.new.nodes q.new.children q.new.records
-    q.result l.invariant c.loop-left-test.true
+    q.result l.invariant (omega arith)
     (sym c.is_ended.ensures ∙ c.if-is_ended.false)
     q.auto.stack q.auto.scratch q.auto.nodes q.auto.children q.auto.records q.ensures
 

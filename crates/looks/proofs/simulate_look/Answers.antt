@@ -1,5 +1,6 @@
 -- `looks::simulate_look` is a look of the simulation: a shift recovers, an error sends the search on.
 -- Assumes nothing.
+use borrow.Author.Rules.{rules}
 use Rattle.model.specs.Model.{simulate_look, look}
 use Rattle.looks.specs.Deciding.{on_act}
 use Rattle.looks.proofs.simulate_look.Goals as goal
@@ -30,7 +31,7 @@ returns-in-Reduce c = (
 pub returns-in-Error : goal.returns-in-Error
 unfolding look simulate_look on_act
 returns-in-Error c = (
-  tt,
+  search rules,
   λ C nodes children records m n a. rw (
     ← c.sim_top.ensures,
     ← c.cell_under-cell.ensures C m a,

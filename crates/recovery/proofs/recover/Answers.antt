@@ -1,25 +1,23 @@
 -- `recovery::recover` tests nodes and records in the definition's order, and places the mark where both fit.
 -- Assumes nothing.
-use borrow.Author.Tests.{le-leb, lt-leb}
+use Rattle.std.proofs.Common.{◌+◌, ◌/◌, ◌<◌, ◌≤◌, length, arith, le-leb}
+use Rattle.std.proofs.lemmas.Bool.{lt-leb}
 use Rattle.model.specs.Model.{place_mark, recover}
 use Rattle.recovery.proofs.recover.Goals as goal
 
 pub returns-then-nodes-node : goal.returns-then-nodes-node
 unfolding recover place_mark
-returns-then-nodes-node c = λ C scratch children m n. rw (lt-leb _ _ c.if-nodes-node.true, c.ended.ensures)
+returns-then-nodes-node c = let h : length c.args.nodes.now / 32 < c.args.st.nodes + 1 = omega arith in
+    λ C scratch children m n. rw (lt-leb _ _ h, c.ended.ensures)
 
 pub returns-then-records-count : goal.returns-then-records-count
 unfolding recover place_mark
-returns-then-records-count c = λ C scratch children m n. rw (
-  le-leb _ _ c.if-nodes-node.false,
-  lt-leb _ _ c.if-records-count.true,
-  c.ended-then-records-count.ensures,
-)
+returns-then-records-count c = let h : c.args.st.nodes + 1 ≤ length c.args.nodes.now / 32 = omega arith in
+    let k : length c.args.records.now / 64 < c.args.st.records + 1 = omega arith in
+    λ C scratch children m n. rw (le-leb _ _ h, lt-leb _ _ k, c.ended-then-records-count.ensures)
 
 pub returns : goal.returns
 unfolding recover place_mark
-returns c = λ C scratch children m n. rw (
-  le-leb _ _ c.if-nodes-node.false,
-  le-leb _ _ c.if-records-count.false,
-)
-    (c.mark.ensures C scratch children m n)
+returns c = let h : c.args.st.nodes + 1 ≤ length c.args.nodes.now / 32 = omega arith in
+    let k : c.args.st.records + 1 ≤ length c.args.records.now / 64 = omega arith in
+    λ C scratch children m n. rw (le-leb _ _ h, le-leb _ _ k) (c.mark.ensures C scratch children m n)
