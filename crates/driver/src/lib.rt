@@ -43,7 +43,6 @@ fn first_st(origin: u32) -> St
     }
 }
 
-#[tactic(auto, using(moves::specs::Serving::too_deep), unfolding(model::specs::Model::begin))]
 fn read_first(tokens: &[u8], g: Given, st: St) -> St
     requires { st.next < 2 ^ 32 }
     ensures { (C : Call) → Reads C tokens.now g → st ≡ first_st C → result ≡ begin C }

@@ -2,8 +2,12 @@
 -- Assumes nothing.
 use Rattle.std.proofs.Common.{◌≤◌, arith}
 use Rattle.model.specs.Model.{begin}
-use Rattle.moves.specs.Serving.{depth_fits_law}
+use Rattle.moves.specs.Serving.{depth_fits_law, too_deep}
 use Rattle.driver.proofs.read_first.Goals as goal
+
+pub returns-then-depth-lt1 : goal.returns-then-depth-lt1
+unfolding begin
+returns-then-depth-lt1 c = λ C m e. rw (too_deep m 1 c.if-depth-lt1.true, ← e) c.ended.ensures
 
 pub returns : goal.returns
 unfolding begin
