@@ -5,8 +5,7 @@ use Rattle.std.proofs.Common.{inl, inr, arith}
 use Rattle.words.specs.Words.{pick}
 use Rattle.rules.specs.declared.Answer.{Answer}
 use Rattle.rules.specs.declared.Answer.TheVariants.{Accepted, AcceptedEarly, UnrecognizedToken, UnrecognizedEnd, ExtraToken, TokenizerError, OutOfUnits, OutOfDepth, OutOfChildren, OutOfNodes, OutOfRecords}
-use Rattle.rules.specs.declared.Verdict.{Verdict}
-use Rattle.rules.specs.declared.Verdict.TheVariants.{Passes, Refused}
+use Rattle.rules.specs.Verdict.{Verdict, Passes, Refused}
 use Rattle.rules.specs.Tables.{Tables}
 use Rattle.rules.specs.Check.{check, ok18}
 use Rattle.rules.specs.Driving.{Run, Outcome, drive}

@@ -2,8 +2,7 @@
 -- leaves the bytes of its nodes, child entries and records, what was behind them, and its report. Stack and scratch are exempt.
 use Rattle.std.specs.Prelude.{List, ◌++◌, ◌≡◌, ℕ, ◌*◌, ◌/◌, min, length, drop}
 use Rattle.std.proofs.Common.{sym, ◌∙◌}
-use Rattle.rules.specs.declared.Verdict.{Verdict}
-use Rattle.rules.specs.declared.Verdict.TheVariants.{Passes, Refused}
+use Rattle.rules.specs.Verdict.{Verdict, Passes, Refused}
 use Rattle.rules.specs.declared.Answer.{Answer}
 use Rattle.rules.specs.Tables.{Tables}
 use Rattle.rules.specs.Driving.{Run}

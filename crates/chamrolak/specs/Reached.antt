@@ -7,7 +7,7 @@ use Rattle.words.specs.Laws.{Bytes, get16_lt, pick_leb}
 use Rattle.rules.specs.declared.Answer.{Answer}
 use Rattle.rules.specs.Tables.{Tables, states, kinds, nonterminals, flag}
 use Rattle.rules.specs.Basics.{all_below}
-use Rattle.rules.specs.declared.Verdict.TheVariants.{Passes, Refused}
+use Rattle.rules.specs.Verdict.{Passes, Refused}
 use Rattle.rules.specs.Check.{check, ok18}
 use Rattle.rules.specs.Driving.{Run}
 use Rattle.rules.specs.Answers.{number_of, value_of, bytes_of, report_words, counts_of, Limits, after_check, drive_reply, parse_reply}

@@ -1,8 +1,7 @@
 -- What a scan found, as the rules judge it: a place is refused with the scan's number, and where there is none the rest judges.
 -- Each link of the check is proved by these two.
 use Rattle.std.specs.Prelude.{Bool, ◌≡◌, ℕ}
-use Rattle.rules.specs.declared.Verdict.{Verdict}
-use Rattle.rules.specs.declared.Verdict.TheVariants.{Refused}
+use Rattle.rules.specs.Verdict.{Verdict, Refused}
 use Rattle.rules.specs.Check.{judge}
 use Rattle.tables.specs.declared.Place.{Place}
 use Rattle.tables.specs.declared.Place.TheVariants.{At, Nowhere}

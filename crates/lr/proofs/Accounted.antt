@@ -2,7 +2,7 @@
 use Rattle.std.specs.Prelude.{◌≡◌, true, ℕ, ◌≤◌, length}
 use Rattle.std.proofs.Common.{subst, arith}
 use Rattle.rules.specs.declared.Formed.{Formed}
-use Rattle.rules.specs.declared.Verdict.TheVariants.{Passes}
+use Rattle.rules.specs.Verdict.{Passes}
 use Rattle.rules.specs.declared.Answer.TheVariants.{Accepted, AcceptedEarly}
 use Rattle.rules.specs.Tables.{kinds, symbol}
 use Rattle.rules.specs.Check.{check}

@@ -5,7 +5,7 @@ use Rattle.rules.specs.declared.Token.{Token}
 use Rattle.rules.specs.declared.Cell.TheVariants.{Shift, Reduce}
 use Rattle.rules.specs.declared.Entry.{Entry}
 use Rattle.rules.specs.declared.Answer.TheVariants.{Accepted}
-use Rattle.rules.specs.declared.Verdict.TheVariants.{Passes}
+use Rattle.rules.specs.Verdict.{Passes}
 use Rattle.rules.specs.Tables.{Tables, kinds, action, goto, target, left, size}
 use Rattle.rules.specs.Check.{check}
 use Rattle.rules.specs.Driving.{Job, Run, main, more, done, top_state, top_of, root_of, no_token, has_token, look_column, counted, grow, production_entry, nodes_of, reduce_over, reduce, main_reduce, main_look, states_of, step, run_from, drive}

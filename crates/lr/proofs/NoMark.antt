@@ -6,7 +6,7 @@ use Rattle.std.proofs.Math.Path.{subst}
 use Prim.Native.Nat.{ℕ, ◌<◌}
 use Rattle.rules.specs.declared.Token.{Token}
 use Rattle.rules.specs.declared.Answer.{Answer}
-use Rattle.rules.specs.declared.Verdict.TheVariants.{Passes}
+use Rattle.rules.specs.Verdict.{Passes}
 use Rattle.rules.specs.Tables.{Tables, kinds}
 use Rattle.rules.specs.Check.{check}
 use Rattle.rules.specs.Driving.{Job, Run, done, no_token, drive}

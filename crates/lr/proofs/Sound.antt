@@ -2,7 +2,7 @@
 use Rattle.std.specs.Prelude.{false, List, ◌≡◌, refl, ℕ, length}
 use Rattle.std.proofs.Common.{sym, subst, ◌∙◌, leb-true}
 use Rattle.rules.specs.declared.Token.{Token}
-use Rattle.rules.specs.declared.Verdict.TheVariants.{Passes}
+use Rattle.rules.specs.Verdict.{Passes}
 use Rattle.rules.specs.Tables.{Tables, kinds, symbol}
 use Rattle.rules.specs.Check.{check}
 use Rattle.rules.specs.Driving.{Job, begin, drive}

@@ -7,7 +7,7 @@ use Rattle.rules.specs.declared.StateNo.{StateNo}
 use Rattle.rules.specs.declared.Token.{Token}
 use Rattle.rules.specs.declared.Formed.{Formed}
 use Rattle.rules.specs.declared.Answer.{Answer}
-use Rattle.rules.specs.declared.Verdict.TheVariants.{Passes, Refused}
+use Rattle.rules.specs.Verdict.{Passes, Refused}
 use Rattle.rules.specs.Tables.{Tables, kinds, production_count, item_count, error_column, end_column, action, symbol}
 use Rattle.rules.specs.Check.{action_cells, goto_cells, ok10, ok11, ok12, ok13, ok14, ok15, ok16, ok17, check}
 use Rattle.rules.specs.Driving.{Job, Run, simulate, done, top_state, top_of, token_at, has_token, look_column, drive, Mode, Node, Outcome, production_entry, marked, formed, answer_of, begin, step}

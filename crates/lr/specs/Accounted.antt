@@ -1,11 +1,10 @@
 -- What an accepted call leaves accounts for every token that was read: by one leaf or by exactly one mark's stretch; and the list with
 -- one error token for each stretch is accepted by the plain driver, with the same productions over the same leaves.
-use Rattle.std.specs.Prelude.{◌≡◌, refl, Bool, true, false, List, ℕ, ◌≤◌, ◌<◌}
+use Rattle.std.specs.Prelude.{◌≡◌, refl, Bool, true, false, List, ℕ, ◌≤◌, ◌<◌, Ok, Err}
 use Rattle.std.proofs.Common.{arith, ltb-true}
 use Rattle.words.specs.Words.{pick}
 use Rattle.rules.specs.declared.Token.{Token}
-use Rattle.rules.specs.declared.Verdict.{Verdict}
-use Rattle.rules.specs.declared.Verdict.TheVariants.{Passes, Refused}
+use Rattle.rules.specs.Verdict.{Verdict, Passes}
 use Rattle.rules.specs.declared.Answer.{Answer}
 use Rattle.rules.specs.declared.Answer.TheVariants.{OutOfUnits}
 use Rattle.rules.specs.Tables.{Tables, kinds, symbol}
@@ -48,8 +47,8 @@ derived_root J r root h = rw (built_tree h.built) h.derives
 
 after_check_law : (v : Verdict) (reply : Reply) (a : Answer) (r : Run) → after_check v reply ≡ Reply.answered a r → (v ≡ Passes) × (reply ≡ Reply.answered a r)
 unfolding after_check
-after_check_law Passes reply a r e = (refl, e)
-after_check_law (Refused number place) reply a r e = let z : ◌≡◌ {A = ℕ} 0 1 = cc in absurd (omega arith)
+after_check_law (Ok _) reply a r e = (refl, e)
+after_check_law (Err refusal) reply a r e = let z : ◌≡◌ {A = ℕ} 0 1 = cc in absurd (omega arith)
 
 judged : (t : Bool) (reply : Reply) (a : Answer) (r : Run) → pick t reply (Reply.refused 18 0) ≡ Reply.answered a r → reply ≡ Reply.answered a r
 judged true reply a r e = e

@@ -1,13 +1,13 @@
 -- What a test that is true says: of both, of either, of one that implies another, of all or any number below a bound, and of the
 -- first place at which a test is false.
-use Rattle.std.specs.Prelude.{Bool, true, false, not, ◌&&◌, ◌||◌, List, [], ◌∷◌, ◌⊎◌, ◌≡◌, refl, ℕ, zero, suc, ◌+◌, ◌≤◌, ◌<◌}
+use Rattle.std.specs.Prelude.{Bool, true, false, not, ◌&&◌, ◌||◌, List, [], ◌∷◌, ◌⊎◌, ◌≡◌, refl, ℕ, zero, suc, ◌+◌, ◌≤◌, ◌<◌, Err}
 use Rattle.std.proofs.Common.{inl, inr, ⊎_elim, sym, ap, ◌∙◌, arith}
 use Rattle.std.proofs.Math.Logic.{by_cases}
 use Rattle.std.proofs.Math.Decide.{dec_lt}
 use Rattle.words.specs.Words.{pick}
 use Rattle.rules.specs.Basics.{all_below, any_below}
-use Rattle.rules.specs.declared.Verdict.{Verdict}
-use Rattle.rules.specs.declared.Verdict.TheVariants.{Passes, Refused}
+use Rattle.rules.specs.declared.Refusal.{Refusal}
+use Rattle.rules.specs.Verdict.{Verdict, Passes, Refused}
 use Rattle.rules.specs.Check.{first_false, judge}
 
 -- a test is true or it is not, with the equation
@@ -179,6 +179,9 @@ all_of_passes rows e = ⊎_elim (λ h. h) (λ r. other r.0 r.1 (refused_of rows 
     other : (n p : ℕ) → judge_all rows ≡ Refused n p → AllHold rows
     other n p f = let z : ◌≡◌ {A = ℕ} 0 1 = cc in absurd (omega arith)
 
+one_reason : (r s : Refusal) → ◌≡◌ {A = Verdict} (Err r) (Err s) → (r.number ≡ s.number) × (r.place ≡ s.place)
+one_reason r s e = let h : r ≡ s = cc in ((λ i. (h i).number), (λ i. (h i).place))
+
 pub bad_of_refused : (rows : List Row) (n p : ℕ) → judge_all rows ≡ Refused n p → FirstBad rows n p
 bad_of_refused rows n p e = ⊎_elim (λ h. other (passes_of rows h)) (λ r. same r.0 r.1 r.2 (refused_of rows r.0 r.1 r.2)) (judged_all rows)
   where
@@ -186,4 +189,4 @@ bad_of_refused rows n p e = ⊎_elim (λ h. other (passes_of rows h)) (λ r. sam
     other f = let z : ◌≡◌ {A = ℕ} 0 1 = cc in absurd (omega arith)
 
     same : (m q : ℕ) → FirstBad rows m q → judge_all rows ≡ Refused m q → FirstBad rows n p
-    same m q b f = let u : m ≡ n = cc in let v : q ≡ p = cc in rw (← u, ← v) b
+    same m q b f = let h = one_reason _ _ (sym f ∙ e) in let u : m ≡ n = h.0 in let v : q ≡ p = h.1 in rw (← u, ← v) b

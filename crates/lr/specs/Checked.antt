@@ -16,7 +16,7 @@ use Rattle.rules.specs.declared.Cell.{Cell}
 use Rattle.rules.specs.declared.Cell.TheVariants.{Shift, Reduce, Error}
 use Rattle.rules.specs.declared.StateNo.{StateNo}
 use Rattle.rules.specs.declared.ProdNo.{ProdNo}
-use Rattle.rules.specs.declared.Verdict.TheVariants.{Passes, Refused}
+use Rattle.rules.specs.Verdict.{Passes, Refused}
 use Rattle.rules.specs.Basics.{all_below, between}
 use Rattle.rules.specs.Tables.{Tables, states, kinds, nonterminals, production_count, item_count, flag, end_column, columns, symbol_count, is_terminal, symbol_of, nonterminal_of, cell_at, action, goto, move, goes_to, is_shift, left, size, symbol, rhs, symbols_from, Item, item_at, nullable, in_first}
 use Rattle.rules.specs.Check.{max_states, sizes_fit, lengths_agree, set_fits, ok10, enters_well, action_fits, goto_fits, action_cells, goto_cells, ok11, symbol_fits, left_fits, ok12, all_nullable, begins_with, ok13, item_fits, ok14, is_at, has_item, has_item_for, comes_well, dot_fits, ok15, reduce_fits, ok16, can_begin, moves_on, opens, follows_symbol, reduces, has_goto, follow_ups, ok17, check17, check16, check15, check14, check13, check12, check11, check}

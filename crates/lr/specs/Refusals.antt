@@ -1,12 +1,11 @@
 -- What a refusal of the check says: its number is one of 10 to 17, the tests of every lower number hold at all their places, its own
 -- test holds at all lower places, and fails at this one. No other number and place are so, and they are so exactly if it refuses.
-use Rattle.std.specs.Prelude.{Bool, true, false, List, [], ◌∷◌, ◌↔◌, ◌≡◌, refl, ℕ, ◌≤◌, ◌<◌, eqb}
+use Rattle.std.specs.Prelude.{Bool, true, false, List, [], ◌∷◌, ◌↔◌, ◌≡◌, refl, ℕ, ◌≤◌, ◌<◌, eqb, Ok, Err}
 use Rattle.std.proofs.Math.Logic.{by_cases}
 use Rattle.std.proofs.Common.{sym, subst, ◌∙◌, arith, lit≤, eq-eqb, ne_eqb}
 use Rattle.std.proofs.Math.Decide.{dec_lt, ℕ_discrete}
 use Rattle.words.specs.Words.{pick}
-use Rattle.rules.specs.declared.Verdict.{Verdict}
-use Rattle.rules.specs.declared.Verdict.TheVariants.{Passes, Refused}
+use Rattle.rules.specs.Verdict.{Verdict, Passes, Refused}
 use Rattle.rules.specs.Tables.{Tables}
 use Rattle.rules.specs.Check.{check}
 use Rattle.lr.specs.Bools.{not_both, pick_true, pick_false, Row, AllHold, FirstBad, here, later}
@@ -185,5 +184,9 @@ pub refused_exactly : (T : Tables) (n p : ℕ) → (check T ≡ Refused n p) ↔
 refused_exactly T n p = (refusal T n p, λ a. by a (check T) refl)
   where
     by : Refusal T n p → (v : Verdict) → check T ≡ v → check T ≡ Refused n p
-    by a Passes e = not_both ((passes_exactly T).0 e n p a.place_in) a.fails
-    by a (Refused m q) e = let s = one_refusal (refusal T m q e) a in let u : m ≡ n = s.0 in let v : q ≡ p = s.1 in e ∙ (λ i. Refused (u i) (v i))
+    by a (Ok _) e = not_both ((passes_exactly T).0 e n p a.place_in) a.fails
+    by a (Err r) e =
+        let s = one_refusal (refusal T r.number r.place e) a in
+        let u : r.number ≡ n = s.0 in
+        let v : r.place ≡ p = s.1 in
+        e ∙ (λ i. Refused (u i) (v i))

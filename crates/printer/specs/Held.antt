@@ -18,7 +18,7 @@ use Rattle.rules.specs.declared.Entry.{Entry}
 use Rattle.rules.specs.declared.Formed.{Formed}
 use Rattle.rules.specs.declared.StateNo.{StateNo}
 use Rattle.rules.specs.declared.Answer.{Answer}
-use Rattle.rules.specs.declared.Verdict.{Verdict}
+use Rattle.rules.specs.Verdict.{Verdict}
 use Rattle.rules.specs.Tables.{Tables, cell_of, cell_at, action, states, columns, size, left, goto, target}
 use Rattle.rules.specs.Driving.{Job, Run, Node, Marked, Mode, Outcome, no_token, token_at, has_token, top_of, counted, in_mode, read_to, advanced, child_of, node_of, grow, need, depth_over, judge_kind, arrive, token_entry, shift, end_or, after_or, start_or, first_or, empty_spot, production_entry, nodes_of, reduce_over, reduce, main_reduce, formed, fail, main_look, column_reduce, column_look, drop_token, further, states_of, start_simulation, search_look, has_dropped, mark_start, mark_end, marked, mark_entry, place_mark, recover, simulate_over, simulate_reduce, simulate_look, look, step, run_from, first_run, begin, drive}
 use Rattle.rules.specs.Check.{check, max_tokens}

@@ -8,7 +8,7 @@ use Rattle.rules.specs.Basics.{text}
 use Rattle.rules.specs.Tables.{Tables}
 use Rattle.rules.specs.Answers.{Limits, Reply, number_of, roots_of, places_of, expected_of, counts_of, bytes_of}
 use Rattle.rules.specs.File.{kinds_of, program_limits}
-use Rattle.rules.specs.declared.Verdict.TheVariants.{Passes, Refused}
+use Rattle.rules.specs.Verdict.{Passes, Refused}
 use Rattle.rules.proofs.Opened.{judged, replied, written, lines_of}
 use Rattle.rules.proofs.TableA.{tables, table_a, table_extra, table_early, table_bare, with_actions, with_gotos, with_productions, with_sets, with_items, sizes_a, actions_a, gotos_a, productions_a, rights_a, items_a, sets_a, file_a, minus}
 

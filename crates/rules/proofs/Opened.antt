@@ -3,7 +3,7 @@ use mathlib.Core.List.{List, [], ◌∷◌}
 use Prim.Native.Nat.{ℕ}
 use lib.Count.{ones_in, ones}
 use Rattle.words.specs.Words.{get16, get32, word16, word32, le2, le4}
-use Rattle.rules.specs.declared.Verdict.{Verdict}
+use Rattle.rules.specs.Verdict.{Verdict}
 use Rattle.rules.specs.Basics.{all_below, any_below, bits, codes_from, text}
 use Rattle.rules.specs.Tables.{Tables, states, kinds, nonterminals, production_count, item_count, flag, cell_at, action, goto, move, left, size, right_start, symbol, symbols_from, rhs, item_at, nullable_byte, in_set, nullable, in_first}
 use Rattle.rules.specs.Check.{sizes_fit, lengths_agree, set_fits, ok10, enters_well, action_fits, goto_fits, ok11, symbol_fits, left_fits, ok12, all_nullable, begins_with, ok13, item_fits, before, ascends, ok14, is_at, has_item, has_item_for, comes_well, dot_fits, ok15, reduce_fits, ok16, can_begin, moves_on, opens, follows_symbol, reduces, has_goto, follow_ups, ok17, first_false, judge, check17, check16, check15, check14, check13, check12, check11, check, ok18}

@@ -1,5 +1,5 @@
 -- "What comes back": the number and the values of each answer, and the words and bytes of nodes and records.
-use Rattle.std.specs.Prelude.{List, [], ◌∷◌, ◌++◌, ℕ, zero, suc, ◌+◌, ◌/◌, leb, ltb, eqb, length}
+use Rattle.std.specs.Prelude.{List, [], ◌∷◌, ◌++◌, ℕ, zero, suc, ◌+◌, ◌/◌, leb, ltb, eqb, length, Ok, Err}
 use Rattle.std.specs.Int.Count.{ones}
 use Rattle.words.specs.Words.{pick, le4, word32}
 use Rattle.rules.specs.declared.Token.{Token}
@@ -7,8 +7,7 @@ use Rattle.rules.specs.declared.What.{What}
 use Rattle.rules.specs.declared.What.TheVariants.{Read, Mark, Production}
 use Rattle.rules.specs.declared.Answer.{Answer}
 use Rattle.rules.specs.declared.Answer.TheVariants.{Accepted, AcceptedEarly, UnrecognizedToken, UnrecognizedEnd, ExtraToken, TokenizerError, OutOfUnits, OutOfDepth, OutOfChildren, OutOfNodes, OutOfRecords}
-use Rattle.rules.specs.declared.Verdict.{Verdict}
-use Rattle.rules.specs.declared.Verdict.TheVariants.{Passes, Refused}
+use Rattle.rules.specs.Verdict.{Verdict}
 use Rattle.rules.specs.Tables.{Tables, kinds, flag}
 use Rattle.rules.specs.Check.{check, ok18}
 use Rattle.rules.specs.Driving.{Job, Run, Node, Marked, Outcome, drive, expected_word}
@@ -185,8 +184,8 @@ unfoldable pub drive_reply : Tables → List ℕ → ℕ → Limits → Reply
 drive_reply T s origin L = pick (ok18 s) (reply_of (drive (job_of T (tokens_of s) origin L) L.budget)) (refused 18 0)
 
 unfoldable pub after_check : Verdict → Reply → Reply
-after_check Passes reply = reply
-after_check (Refused number place) reply = refused number place
+after_check (Ok _) reply = reply
+after_check (Err refusal) reply = refused refusal.number refusal.place
 
 -- the whole of a call: 10 to 17, then 18, then the run
 unfoldable pub parse_reply : Tables → List ℕ → ℕ → Limits → Reply

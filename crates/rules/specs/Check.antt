@@ -4,8 +4,7 @@ use Rattle.std.specs.Prelude.{Bool, true, false, ◌&&◌, ◌||◌, not, List, 
 use Rattle.words.specs.Words.{pick, word32}
 use Rattle.rules.specs.declared.Cell.{Cell}
 use Rattle.rules.specs.declared.Cell.TheVariants.{Shift, Reduce, Error}
-use Rattle.rules.specs.declared.Verdict.{Verdict}
-use Rattle.rules.specs.declared.Verdict.TheVariants.{Passes, Refused}
+use Rattle.rules.specs.Verdict.{Verdict, Passes, Refused}
 use Rattle.rules.specs.Basics.{all_below, any_below, between}
 use Rattle.rules.specs.Tables.{Tables, states, kinds, nonterminals, production_count, item_count, flag, end_column, columns, symbol_count, is_terminal, symbol_of, nonterminal_of, cell_at, action, goto, move, goes_to, is_shift, left, size, right_start, symbol, rhs, Item, item_at, nullable_byte, in_set, nullable, in_first}
 

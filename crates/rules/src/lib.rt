@@ -2,29 +2,30 @@
 #![tactic(auto)]
 
 // "A state number and a production number are two kinds and may not be mixed." Both are wide enough for every cell width.
-#[derive(Clone, Copy)]
+#[derive(Clone, Copy, Debug, PartialEq, Eq)]
 pub struct StateNo(pub u32);
 
-#[derive(Clone, Copy)]
+#[derive(Clone, Copy, Debug, PartialEq, Eq)]
 pub struct ProdNo(pub u32);
 
 // What an action cell says. A goto cell is read the same way: it shifts to a state, or it is an error, "none".
-#[derive(Clone, Copy)]
+#[derive(Clone, Copy, Debug, PartialEq, Eq)]
 pub enum Cell {
     Shift(StateNo),
     Reduce(ProdNo),
     Error,
 }
 
-// What the check says: all is well, or a refusal's number and its place.
-#[derive(Clone, Copy)]
-pub enum Verdict {
-    Passes,
-    Refused(u32, u32),
+// A refusal: its number in document 01, and its place. The numbers stay numbers: they are document 01's own, the theorems speak of
+// every number, and C is given it.
+#[derive(Clone, Copy, Debug, PartialEq, Eq)]
+pub struct Refusal {
+    pub number: u32,
+    pub place: u32,
 }
 
 // "A token is (kind, start, end)."
-#[derive(Clone, Copy)]
+#[derive(Clone, Copy, Debug, PartialEq, Eq)]
 pub struct Token {
     pub kind: u32,
     pub start: u32,
@@ -32,7 +33,7 @@ pub struct Token {
 }
 
 // What a stack entry or a node stands for: the token, the record or the production of that number.
-#[derive(Clone, Copy)]
+#[derive(Clone, Copy, Debug, PartialEq, Eq)]
 pub enum What {
     Read(u32),
     Mark(u32),
@@ -41,7 +42,7 @@ pub enum What {
 
 // "Each stack entry is a token, a mark or a production, with its span." Beside these: its tokens (the first, and the one after
 // the last), its state and its node.
-#[derive(Clone, Copy)]
+#[derive(Clone, Copy, Debug, PartialEq, Eq)]
 pub struct Entry {
     pub what: What,
     pub start: u32,
@@ -54,7 +55,7 @@ pub struct Entry {
 
 // The error that recovery has formed: answer 3 or 4, its token or location, the lookahead's index where it arose, and the top
 // state of that moment, whose row says which kinds were expected.
-#[derive(Clone, Copy)]
+#[derive(Clone, Copy, Debug, PartialEq, Eq)]
 pub struct Formed {
     pub number: u32,
     pub at: u32,
@@ -63,7 +64,7 @@ pub struct Formed {
 }
 
 // How a run ends. The two unrecognized ones name the state whose row says which kinds were expected.
-#[derive(Clone, Copy)]
+#[derive(Clone, Copy, Debug, PartialEq, Eq)]
 pub enum Answer {
     Accepted(u32),
     AcceptedEarly(u32, u32),

@@ -7,8 +7,7 @@ use native.Mathlib.Omega.{arith}
 use Rattle.std.proofs.Math.Decide.{dec_lt}
 use borrow.Author.Tests.{not-true, not-false}
 use Rattle.words.specs.Words.{pick}
-use Rattle.rules.specs.declared.Verdict.{Verdict}
-use Rattle.rules.specs.declared.Verdict.TheVariants.{Refused}
+use Rattle.rules.specs.Verdict.{Verdict, Refused}
 use Rattle.rules.specs.Basics.{all_below}
 use Rattle.rules.specs.Tables.{Tables}
 use Rattle.rules.specs.Check.{first_false, judge}
