@@ -2,16 +2,14 @@
 #![tactic(auto)]
 
 ghost use Rattle.std.specs.Prelude.{◌≡◌};
-ghost use Rattle.rules.specs.Tables.{item_count};
-ghost use Rattle.rules.specs.Check.{check, check11, check12, check13, check14, check15, check16, check17};
-ghost use Rattle.items.specs.Lookup.{Listed};
-ghost use Rattle.tables.specs.Fit.{Fit};
-ghost use Rattle.tables.specs.Places.{call_tables};
+ghost use Rattle.rules.specs.Verdict.{Passes};
+ghost use Rattle.rules.specs.Check.{check};
+ghost use Rattle.tables.specs.Places.{call_tables, verdict_at};
 
 use coming::scan15;
 use following::scan17;
 use items::reducing::scan16;
-use rules::Verdict;
+use rules::Refusal;
 use shapes::closed::scan13;
 use shapes::entries::scan11;
 use shapes::items::scan14;
@@ -19,7 +17,18 @@ use shapes::sizes::scan10;
 use shapes::symbols::scan12;
 use tables::Place;
 
-// 10: the sizes, flags and set bits are in range, and the lists are as long as the sizes say.
+// What the scan for a number says: the place that it found is refused with that number.
+fn none_at(number: u32, found: Place) -> Result<(), Refusal>
+    ensures { result ≡ verdict_at number found Passes }
+{
+    match found {
+        Place::At(place) => Err(Refusal { number, place }),
+        Place::Nowhere => Ok(()),
+    }
+}
+
+// "The check, in this order, lowest place first": each scan is made where none before it found a place to refuse.
+#[tactic(auto, using(crate::specs::Chain::check_at))]
 pub fn check(
     sizes: &[u8],
     actions: &[u8],
@@ -28,163 +37,47 @@ pub fn check(
     rights: &[u8],
     items: &[u8],
     sets: &[u8],
-) -> Verdict
+) -> Result<(), Refusal>
     ensures { result ≡ check (call_tables sizes.now actions.now gotos.now productions.now rights.now items.now sets.now) }
 {
-    let found = scan10(sizes, actions, gotos, productions, rights, items, sets);
-    match found {
-        Place::At(place) => Verdict::Refused(10, place),
-        Place::Nowhere => check_cells(sizes, actions, gotos, productions, rights, items, sets),
-    }
-}
-
-// 11: every cell names a state or a production and may stand where it stands.
-fn check_cells(
-    sizes: &[u8],
-    actions: &[u8],
-    gotos: &[u8],
-    productions: &[u8],
-    rights: &[u8],
-    items: &[u8],
-    sets: &[u8],
-) -> Verdict
-    requires { Fit (call_tables sizes.now actions.now gotos.now productions.now rights.now items.now sets.now) }
-    ensures { result ≡ check11 (call_tables sizes.now actions.now gotos.now productions.now rights.now items.now sets.now) }
-{
-    let found = scan11(sizes, actions, gotos, productions, rights, items, sets);
-    match found {
-        Place::At(place) => Verdict::Refused(11, place),
-        Place::Nowhere => check_productions(
-            sizes,
-            actions,
-            gotos,
-            productions,
-            rights,
-            items,
-            sets,
-        ),
-    }
-}
-
-// 12: left sides and symbols are in range, and production 0 is shaped as it must be.
-fn check_productions(
-    sizes: &[u8],
-    actions: &[u8],
-    gotos: &[u8],
-    productions: &[u8],
-    rights: &[u8],
-    items: &[u8],
-    sets: &[u8],
-) -> Verdict
-    requires { Fit (call_tables sizes.now actions.now gotos.now productions.now rights.now items.now sets.now) }
-    ensures { result ≡ check12 (call_tables sizes.now actions.now gotos.now productions.now rights.now items.now sets.now) }
-{
-    let found = scan12(sizes, actions, gotos, productions, rights, items, sets);
-    match found {
-        Place::At(place) => Verdict::Refused(12, place),
-        Place::Nowhere => check_closure(sizes, actions, gotos, productions, rights, items, sets),
-    }
-}
-
-// 13: the nullable flags and first sets are closed under every production.
-fn check_closure(
-    sizes: &[u8],
-    actions: &[u8],
-    gotos: &[u8],
-    productions: &[u8],
-    rights: &[u8],
-    items: &[u8],
-    sets: &[u8],
-) -> Verdict
-    requires { Fit (call_tables sizes.now actions.now gotos.now productions.now rights.now items.now sets.now) }
-    ensures { result ≡ check13 (call_tables sizes.now actions.now gotos.now productions.now rights.now items.now sets.now) }
-{
-    let found = scan13(sizes, actions, gotos, productions, rights, items, sets);
-    match found {
-        Place::At(place) => Verdict::Refused(13, place),
-        Place::Nowhere => check_order(sizes, actions, gotos, productions, rights, items, sets),
-    }
-}
-
-// 14: the items are in range and strictly ascending.
-fn check_order(
-    sizes: &[u8],
-    actions: &[u8],
-    gotos: &[u8],
-    productions: &[u8],
-    rights: &[u8],
-    items: &[u8],
-    sets: &[u8],
-) -> Verdict
-    requires { Fit (call_tables sizes.now actions.now gotos.now productions.now rights.now items.now sets.now) }
-    ensures { result ≡ check14 (call_tables sizes.now actions.now gotos.now productions.now rights.now items.now sets.now) }
-{
-    let found = scan14(sizes, actions, gotos, productions, rights, items, sets);
-    match found {
-        Place::At(place) => Verdict::Refused(14, place),
-        Place::Nowhere => check_origins(sizes, actions, gotos, productions, rights, items, sets),
-    }
-}
-
-// 15: every item past its production's start was come to over the symbol before its dot.
-fn check_origins(
-    sizes: &[u8],
-    actions: &[u8],
-    gotos: &[u8],
-    productions: &[u8],
-    rights: &[u8],
-    items: &[u8],
-    sets: &[u8],
-) -> Verdict
-    requires fit { Fit (call_tables sizes.now actions.now gotos.now productions.now rights.now items.now sets.now) }
-    requires listed { Listed items.now (item_count (call_tables sizes.now actions.now gotos.now productions.now rights.now items.now sets.now)) }
-    ensures { result ≡ check15 (call_tables sizes.now actions.now gotos.now productions.now rights.now items.now sets.now) }
-{
-    let found = scan15(sizes, actions, gotos, productions, rights, items, sets);
-    match found {
-        Place::At(place) => Verdict::Refused(15, place),
-        Place::Nowhere => check_reductions(sizes, actions, gotos, productions, rights, items, sets),
-    }
-}
-
-// 16: every reduce cell's state has that production's item at its end.
-fn check_reductions(
-    sizes: &[u8],
-    actions: &[u8],
-    gotos: &[u8],
-    productions: &[u8],
-    rights: &[u8],
-    items: &[u8],
-    sets: &[u8],
-) -> Verdict
-    requires fit { Fit (call_tables sizes.now actions.now gotos.now productions.now rights.now items.now sets.now) }
-    requires listed { Listed items.now (item_count (call_tables sizes.now actions.now gotos.now productions.now rights.now items.now sets.now)) }
-    ensures { result ≡ check16 (call_tables sizes.now actions.now gotos.now productions.now rights.now items.now sets.now) }
-{
-    let found = scan16(sizes, actions, gotos, productions, rights, items, sets);
-    match found {
-        Place::At(place) => Verdict::Refused(16, place),
-        Place::Nowhere => check_follow_ups(sizes, actions, gotos, productions, rights, items, sets),
-    }
-}
-
-// 17: every item has its follow-ups, and (0, 0, 0, end) is there.
-fn check_follow_ups(
-    sizes: &[u8],
-    actions: &[u8],
-    gotos: &[u8],
-    productions: &[u8],
-    rights: &[u8],
-    items: &[u8],
-    sets: &[u8],
-) -> Verdict
-    requires fit { Fit (call_tables sizes.now actions.now gotos.now productions.now rights.now items.now sets.now) }
-    requires listed { Listed items.now (item_count (call_tables sizes.now actions.now gotos.now productions.now rights.now items.now sets.now)) }
-    ensures { result ≡ check17 (call_tables sizes.now actions.now gotos.now productions.now rights.now items.now sets.now) }
-{
-    let found = scan17(sizes, actions, gotos, productions, rights, items, sets);
-    match found {
-        Place::At(place) => Verdict::Refused(17, place),
-        Place::Nowhere => Verdict::Passes,
-    }
+    // 10: the sizes, flags and set bits are in range, and the lists are as long as the sizes say.
+    none_at(
+        10,
+        scan10(sizes, actions, gotos, productions, rights, items, sets),
+    )?;
+    // 11: every cell names a state or a production and may stand where it stands.
+    none_at(
+        11,
+        scan11(sizes, actions, gotos, productions, rights, items, sets),
+    )?;
+    // 12: left sides and symbols are in range, and production 0 is shaped as it must be.
+    none_at(
+        12,
+        scan12(sizes, actions, gotos, productions, rights, items, sets),
+    )?;
+    // 13: the nullable flags and first sets are closed under every production.
+    none_at(
+        13,
+        scan13(sizes, actions, gotos, productions, rights, items, sets),
+    )?;
+    // 14: the items are in range and strictly ascending.
+    none_at(
+        14,
+        scan14(sizes, actions, gotos, productions, rights, items, sets),
+    )?;
+    // 15: every item past its production's start was come to over the symbol before its dot.
+    none_at(
+        15,
+        scan15(sizes, actions, gotos, productions, rights, items, sets),
+    )?;
+    // 16: every reduce cell's state has that production's item at its end.
+    none_at(
+        16,
+        scan16(sizes, actions, gotos, productions, rights, items, sets),
+    )?;
+    // 17: every item has its follow-ups, and (0, 0, 0, end) is there.
+    none_at(
+        17,
+        scan17(sizes, actions, gotos, productions, rights, items, sets),
+    )
 }

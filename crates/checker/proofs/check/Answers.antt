@@ -1,20 +1,34 @@
--- `checker::check` is the rules' verdict from 10 on: a place that the scan finds is refused, and where it finds none the rest judges.
+-- `checker::check`: behind 10 the tables fit, and behind 14 the items are listed in order.
 -- Assumes nothing.
-use borrow.Author.Rules.{rules}
-use mathlib.Core.Path.{sym, ◌∙◌}
-use Rattle.rules.specs.Check.{check}
-use Rattle.checker.specs.Chain.{refuses, goes_on}
-use Rattle.tables.specs.Places.{good_at}
-use Rattle.tables.specs.Fit.{fit}
+use Rattle.checker.specs.Chain.{fits, lists}
 use Rattle.checker.proofs.check.Goals as goal
 
-pub check_cells-requires : goal.check_cells-requires
-check_cells-requires c = fit _ 0 (good_at _ 0 1 (sym c.scan10-found.ensures ∙ c.in-Nowhere.is) 0 (search rules) (search rules))
+pub scan11-requires : goal.scan11-requires
+scan11-requires c = fits _ _ _ c.scan10.ensures c.in_ok-none_at.ensures
 
-pub returns-in-At : goal.returns-in-At
-unfolding check
-returns-in-At c = refuses 10 _ _ _ _ _ c.scan10-found.ensures c.in-At.is
+pub scan12-requires : goal.scan12-requires
+scan12-requires c = fits _ _ _ c.scan10.ensures c.in_ok-none_at.ensures
 
-pub returns-in-Nowhere : goal.returns-in-Nowhere
-unfolding check
-returns-in-Nowhere c = goes_on 10 _ _ _ _ _ c.scan10-found.ensures c.in-Nowhere.is c.check_cells.ensures
+pub scan13-requires : goal.scan13-requires
+scan13-requires c = fits _ _ _ c.scan10.ensures c.in_ok-none_at.ensures
+
+pub scan14-requires : goal.scan14-requires
+scan14-requires c = fits _ _ _ c.scan10.ensures c.in_ok-none_at.ensures
+
+pub scan15-requires-clause-fit : goal.scan15-requires-clause-fit
+scan15-requires-clause-fit c = fits _ _ _ c.scan10.ensures c.in_ok-none_at.ensures
+
+pub scan15-requires-clause-listed : goal.scan15-requires-clause-listed
+scan15-requires-clause-listed c = lists _ _ _ (fits _ _ _ c.scan10.ensures c.in_ok-none_at.ensures) c.scan14.ensures c.in_ok-none_at-5.ensures
+
+pub scan16-requires-clause-fit : goal.scan16-requires-clause-fit
+scan16-requires-clause-fit c = fits _ _ _ c.scan10.ensures c.in_ok-none_at.ensures
+
+pub scan16-requires-clause-listed : goal.scan16-requires-clause-listed
+scan16-requires-clause-listed c = lists _ _ _ (fits _ _ _ c.scan10.ensures c.in_ok-none_at.ensures) c.scan14.ensures c.in_ok-none_at-5.ensures
+
+pub scan17-requires-clause-fit : goal.scan17-requires-clause-fit
+scan17-requires-clause-fit c = fits _ _ _ c.scan10.ensures c.in_ok-none_at.ensures
+
+pub scan17-requires-clause-listed : goal.scan17-requires-clause-listed
+scan17-requires-clause-listed c = lists _ _ _ (fits _ _ _ c.scan10.ensures c.in_ok-none_at.ensures) c.scan14.ensures c.in_ok-none_at-5.ensures
