@@ -1,11 +1,11 @@
 -- The customer's three demands, as they hold of every result that the contract of `chamrolak_parse` admits. Each follows from that
 -- contract (`Leaves` of the rules' reply) and from the theory (`lr`).
-use Rattle.std.specs.Prelude.{Bool, true, false, List, ◌++◌, ◌⊎◌, ◌≡◌, refl, ℕ, ◌*◌, ◌≤◌, length, drop}
+use Rattle.std.specs.Prelude.{Bool, true, false, List, ◌++◌, ◌⊎◌, ◌≡◌, refl, ℕ, ◌*◌, ◌≤◌, length, drop, Ok, Err}
 use Rattle.std.proofs.Common.{inl, inr, arith}
 use Rattle.words.specs.Words.{pick}
 use Rattle.rules.specs.declared.Answer.{Answer}
 use Rattle.rules.specs.declared.Answer.TheVariants.{Accepted, AcceptedEarly, UnrecognizedToken, UnrecognizedEnd, ExtraToken, TokenizerError, OutOfUnits, OutOfDepth, OutOfChildren, OutOfNodes, OutOfRecords}
-use Rattle.rules.specs.Verdict.{Verdict, Passes, Refused}
+use Rattle.rules.specs.Verdict.{Verdict}
 use Rattle.rules.specs.Tables.{Tables}
 use Rattle.rules.specs.Check.{check, ok18}
 use Rattle.rules.specs.Driving.{Run, Outcome, drive}
@@ -50,8 +50,8 @@ drive_numbered false o = omega arith
 
 checked_numbered : (T : Tables) (v : Verdict) (reply : Reply) → check T ≡ v → RefusalNumbered reply → RefusalNumbered (after_check v reply)
 unfolding after_check
-checked_numbered T Passes reply e h = h
-checked_numbered T (Refused n p) reply e h = let x = (check_refuses T n p).0 e in (x.number_low, omega (arith, x.number_high))
+checked_numbered T (Ok _) reply e h = h
+checked_numbered T (Err r) reply e h = let x = (check_refuses T r.number r.place).0 e in (x.number_low, omega (arith, x.number_high))
 
 parse_numbered : (T : Tables) (s : List ℕ) (origin : ℕ) (L : Limits) → RefusalNumbered (parse_reply T s origin L)
 unfolding parse_reply drive_reply

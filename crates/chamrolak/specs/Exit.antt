@@ -1,8 +1,8 @@
 -- What a call returns and leaves, for all input: one definition, by cases on the rules' reply. A refusal touches nothing; an answer
 -- leaves the bytes of its nodes, child entries and records, what was behind them, and its report. Stack and scratch are exempt.
-use Rattle.std.specs.Prelude.{List, ◌++◌, ◌≡◌, ℕ, ◌*◌, ◌/◌, min, length, drop}
+use Rattle.std.specs.Prelude.{List, ◌++◌, ◌≡◌, ℕ, ◌*◌, ◌/◌, min, length, drop, Ok, Err}
 use Rattle.std.proofs.Common.{sym, ◌∙◌}
-use Rattle.rules.specs.Verdict.{Verdict, Passes, Refused}
+use Rattle.rules.specs.Verdict.{Verdict}
 use Rattle.rules.specs.declared.Answer.{Answer}
 use Rattle.rules.specs.Tables.{Tables}
 use Rattle.rules.specs.Driving.{Run}
@@ -11,8 +11,8 @@ use Rattle.chamrolak.specs.declared.Returned.{Returned}
 
 -- "Bad tables are refused at the first failed check": the number and the place, 0 where they pass
 abbrev pub returned_of : Verdict → Returned
-returned_of Passes = record { number = 0; value = 0 }
-returned_of (Refused number place) = record { number = number; value = place }
+returned_of (Ok _) = record { number = 0; value = 0 }
+returned_of (Err refusal) = record { number = refusal.number; value = refusal.place }
 
 -- the lent rooms
 pub record Lent : Type 0 where

@@ -2,7 +2,7 @@
 // for all input. The crate chamrolak_c exports them, and include/chamrolak.h has them for C.
 #![tactic(auto)]
 
-ghost use Rattle.std.specs.Prelude.{true, List, [], ◌≡◌, ℕ, ◌<◌, ◌^◌, length};
+ghost use Rattle.std.specs.Prelude.{true, Err, List, [], ◌≡◌, ℕ, ◌<◌, ◌^◌, length};
 ghost use Rattle.rules.specs.Check.{check, ok18};
 ghost use Rattle.rules.specs.Answers.{drive_reply, parse_reply};
 ghost use Rattle.moves.specs.Serving.{world};
@@ -15,7 +15,7 @@ use driver::{depth_of, drive};
 use model::St;
 use moves::Given;
 use report::{number_of, put_report, value_of};
-use rules::Verdict;
+use rules::Refusal;
 use shapes::tokens::tokens_fit;
 use words::word16;
 
@@ -28,19 +28,15 @@ pub struct Returned {
     pub value: u32,
 }
 
-// A verdict as the numbers that a call returns.
-fn in_numbers(verdict: Verdict) -> Returned
-    ensures { result ≡ returned_of verdict }
-{
-    match verdict {
-        Verdict::Passes => Returned {
-            number: 0,
-            value: 0,
-        },
-        Verdict::Refused(number, place) => Returned {
-            number,
-            value: place,
-        },
+// A refusal as the numbers that a call returns.
+impl From<Refusal> for Returned {
+    ghost from_gives = { λ refusal r. r ≡ returned_of (Err refusal) };
+
+    fn from(refusal: Refusal) -> Returned {
+        Returned {
+            number: refusal.number,
+            value: refusal.place,
+        }
     }
 }
 
@@ -56,7 +52,13 @@ pub fn chamrolak_check(
 ) -> Returned
     ensures { result ≡ returned_of (check (call_tables sizes.now actions.now gotos.now productions.now rights.now items.now sets.now)) }
 {
-    in_numbers(checker::check(sizes, actions, gotos, productions, rights, items, sets))
+    match checker::check(sizes, actions, gotos, productions, rights, items, sets) {
+        Ok(()) => Returned {
+            number: 0,
+            value: 0,
+        },
+        Err(refusal) => Returned::from(refusal),
+    }
 }
 
 // The numbers of a call, read off its slices.
@@ -230,9 +232,8 @@ pub fn chamrolak_parse(
 ) -> Returned
     ensures { Leaves (call_tables sizes.now actions.now gotos.now productions.now rights.now items.now sets.now) (parse_reply (call_tables sizes.now actions.now gotos.now productions.now rights.now items.now sets.now) tokens.now origin (limits_in (lent stack.old scratch.old nodes.old children.old records.old report.old) budget)) result (lent stack.old scratch.old nodes.old children.old records.old report.old) (lent stack.new scratch.new nodes.new children.new records.new report.new) }
 {
-    let verdict = checker::check(sizes, actions, gotos, productions, rights, items, sets);
-    match verdict {
-        Verdict::Passes => chamrolak_drive(
+    match checker::check(sizes, actions, gotos, productions, rights, items, sets) {
+        Ok(()) => chamrolak_drive(
             sizes,
             actions,
             gotos,
@@ -247,9 +248,6 @@ pub fn chamrolak_parse(
             records,
             report,
         ),
-        Verdict::Refused(number, place) => Returned {
-            number,
-            value: place,
-        },
+        Err(refusal) => Returned::from(refusal),
     }
 }

@@ -1,5 +1,5 @@
 -- Every number that a run leaves has 32 bits, and every node's child entries are there: so the lines tell every run of the rules.
-use Rattle.std.specs.Prelude.{Bool, ◌&&◌, ◌≡◌, refl, ltb, leb, eqb, pos, get_or, take}
+use Rattle.std.specs.Prelude.{Bool, ◌&&◌, ◌≡◌, refl, ltb, leb, eqb, pos, get_or, take, Ok, Err}
 use Rattle.std.proofs.Math.Bool.{true, false}
 use mathlib.Core.List.{List, [], ◌∷◌, ◌++◌, map, reverse_aux}
 use Rattle.std.proofs.Common.{ap, ◌∙◌, arith, length-append, to_z}
@@ -499,8 +499,8 @@ length_file s at (suc n) = ap suc (length_file s (at + 10) n)
 
 told_after : (v : Verdict) (r : Reply) → ToldBy r → ToldBy (after_check v r)
 unfolding after_check
-told_after Verdict.Passes r t = t
-told_after (Verdict.Refused number place) r t = tt
+told_after (Ok _) r t = t
+told_after (Err refusal) r t = tt
 
 -- What the program answers for a file, its lines tell.
 pub told_file : (T : Tables) (s : List ℕ) → Bytes s → length s < 2 ^ 32 → ToldBy (file_reply T s)
