@@ -1,11 +1,11 @@
 // The state of a run as numbers, beside the lent rooms: the types that the driver and its byte model share. See specs/. This crate
-// has no functions.
+// has no functions but the derived ones.
 #![tactic(auto)]
 
 use rules::{Answer, Formed};
 
 // Where a run stands: the rules' modes, and its end.
-#[derive(Clone, Copy)]
+#[derive(Clone, Copy, Debug, PartialEq, Eq)]
 pub enum Mode {
     Main,
     Column,
@@ -18,7 +18,7 @@ pub enum Mode {
 // `children` and `records` count what is written. `formed`, `popped`, `base` and `pushed` mean something in recovery only: the
 // error, how many symbols lie above the state searched, and the simulated stack, which is `base` entries of the real one and
 // then `pushed` states of the scratch room. `answer` is how the run ends; until it has ended, how it would if the units ran out.
-#[derive(Clone, Copy)]
+#[derive(Clone, Copy, Debug, PartialEq, Eq)]
 pub struct St {
     pub height: usize,
     pub nodes: usize,

@@ -1,4 +1,4 @@
-// The types that contracts and definitions share. Document 01 itself is in specs/: this crate has no functions.
+// The types that contracts and definitions share. Document 01 itself is in specs/: this crate has no functions but the derived ones.
 #![tactic(auto)]
 
 // "A state number and a production number are two kinds and may not be mixed." Both are wide enough for every cell width.
@@ -16,8 +16,8 @@ pub enum Cell {
     Error,
 }
 
-// A refusal: its number in document 01, and its place. The numbers stay numbers: they are document 01's own, the theorems speak of
-// every number, and C is given it.
+// The check's error: the refusal's number in document 01, and its place. Kept as a number: the theorems `check_refuses` and
+// `one_number_and_place` of lr speak of all numbers, and C is returned it.
 #[derive(Clone, Copy, Debug, PartialEq, Eq)]
 pub struct Refusal {
     pub number: u32,
@@ -54,7 +54,8 @@ pub struct Entry {
 }
 
 // The error that recovery has formed: answer 3 or 4, its token or location, the lookahead's index where it arose, and the top
-// state of that moment, whose row says which kinds were expected.
+// state of that moment, whose row says which kinds were expected. Its number is kept as a number and is no enum: the definitions
+// `formed`, `answer_of` and `record_words` of specs/ make, test and write it, and may not change.
 #[derive(Clone, Copy, Debug, PartialEq, Eq)]
 pub struct Formed {
     pub number: u32,
