@@ -1,4 +1,4 @@
--- What the check says: all is well, or "a refusal number and a place".
+-- What the check says: all is well, or a refusal, with its number of document 01 and its place.
 use Rattle.std.specs.Prelude.{ℕ, Result, Ok, Err}
 use Rattle.rules.specs.declared.Refusal.{Refusal}
 
