@@ -11,11 +11,9 @@ use rules::{Cell, ProdNo, StateNo};
 pub fn decode(bits: u16) -> Cell
     ensures { result ≡ cell16 bits }
 {
-    if bits == 0 {
-        return Cell::Error;
+    match bits {
+        0 => Cell::Error,
+        1..=32767 => Cell::Shift(StateNo(bits as u32 - 1)),
+        32768.. => Cell::Reduce(ProdNo(65535 - bits as u32)),
     }
-    if bits < 32768 {
-        return Cell::Shift(StateNo(bits as u32 - 1));
-    }
-    Cell::Reduce(ProdNo(65535 - bits as u32))
 }

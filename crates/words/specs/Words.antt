@@ -1,5 +1,5 @@
 -- Numbers of 16 and 32 bits in a list of bytes, lowest byte first: their bytes, a read, a write, and a read that asks nothing.
--- A place is a byte's index. Each is written out byte by byte, as the code does it; `Laws` has the form over any width.
+-- A place is a byte's index. Each is written out byte by byte; `Laws` has the form over any width.
 -- Assumes nothing.
 use Rattle.std.specs.Prelude.{ℕ, ◌+◌, ◌*◌, ◌/◌, ◌%◌, List, [], ◌∷◌, Bool, true, false, length, get_or, set, leb}
 

@@ -1,74 +1,181 @@
-// Little-endian numbers of 16 and 32 bits in byte slices: each function is the definition of the same name in specs/.
-// Bytes are joined and split by products and divisions that the compiler turns into one load or one store.
+// Little-endian numbers of 16 and 32 bits in byte slices: each function of `Word` is a definition in specs/, at each width.
+// Bytes are joined and split by std's `from_le_bytes` and `to_le_bytes`, which the compiler turns into one load or one store.
 #![tactic(auto)]
 
-ghost use Rattle.std.specs.Prelude.{◌≡◌, ◌+◌, ◌*◌, ◌≤◌, length};
+ghost use Rattle.std.specs.Prelude.{◌≡◌, ℕ, List, ◌+◌, ◌^◌, ◌≤◌, ◌<◌, length};
+ghost use Rattle.words.specs.Laws.{Apart};
 ghost use Rattle.words.specs.Words.{get16, get32, put16, put32, word16, word32};
 
-// The bytes come as parameters: a byte's type bounds it, so neither the casts nor the sums ask for a proof.
-fn join2(a: u8, b: u8) -> u16
-    ensures { result ≡ a + b * 256 }
-{
-    a as u16 + b as u16 * 256
+// What a number of `WIDTH` bytes in a slice is, whatever the width: a read, a write, and a read that asks nothing. A place is a
+// byte's index. The laws are those of specs/Laws.antt: what was put is got, and what was not put is as it was. In a law a number
+// is any ℕ, so `fits` says which have this width.
+pub trait Word: Copy {
+    ghost WIDTH: { ℕ };
+
+    ghost ZERO: { Self };
+
+    ghost fits: { Self → Type 0 };
+
+    ghost get: { List ℕ → ℕ → Self };
+
+    ghost put: { List ℕ → ℕ → Self → List ℕ };
+
+    ghost word: { List ℕ → ℕ → Self };
+
+    const WIDTH: usize;
+
+    const ZERO: Self;
+
+    fn get(s: &[u8], at: usize) -> Self
+        requires { at + WIDTH ≤ length s.now }
+        ensures { result ≡ get s.now at };
+
+    fn put(s: &mut [u8], at: usize, v: Self)
+        requires { at + WIDTH ≤ length s.old }
+        ensures { s.new ≡ put s.old at v };
+
+    ghost length_put: { (s : List ℕ) (at : ℕ) (v : Self) → length (put s at v) ≡ length s };
+
+    ghost get_put_same: { (s : List ℕ) (at : ℕ) (v : Self) → at + WIDTH ≤ length s → fits v → get (put s at v) at ≡ v };
+
+    ghost get_put_other: { (s : List ℕ) (at : ℕ) (v : Self) (i : ℕ) → Apart i WIDTH at WIDTH → get (put s at v) i ≡ get s i };
+
+    ghost word_in: { (s : List ℕ) (at : ℕ) → at + WIDTH ≤ length s → word s at ≡ get s at };
+
+    ghost word_out: { (s : List ℕ) (at : ℕ) → length s < at + WIDTH → word s at ≡ ZERO };
+
+    // The number at `at` if it lies wholly inside, else 0.
+    // The sum `at + WIDTH` could wrap, so the test is by a difference, and by one that a loop over `at` takes only once.
+    final fn word(s: &[u8], at: usize) -> Self
+        ensures { result ≡ word s.now at }
+    {
+        if Self::WIDTH <= s.len() && at <= s.len() - Self::WIDTH {
+            Self::get(s, at)
+        } else {
+            Self::ZERO
+        }
+    }
 }
 
-fn join4(a: u8, b: u8, c: u8, d: u8) -> u32
-    ensures { result ≡ a + b * 256 + c * 65536 + d * 16777216 }
-{
-    a as u32 + b as u32 * 256 + c as u32 * 65536 + d as u32 * 16777216
+impl Word for u16 {
+    ghost use Rattle.words.specs.Words.{get16, put16, word16};
+    ghost use Rattle.words.specs.Laws.{length_put16, get16_put16_same, get16_put16_other, word16_in, word16_out};
+
+    ghost WIDTH = { 2 };
+
+    ghost ZERO = { 0 };
+
+    ghost fits = { λ v. v < 2 ^ 16 };
+
+    ghost get = { get16 };
+
+    ghost put = { put16 };
+
+    ghost word = { word16 };
+
+    const WIDTH: usize = 2;
+
+    const ZERO: u16 = 0;
+
+    #[tactic(auto, unfolding(crate::specs::Words::get16))]
+    fn get(s: &[u8], at: usize) -> u16 {
+        u16::from_le_bytes([s[at], s[at + 1]])
+    }
+
+    #[tactic(auto, using(crate::proofs::Writes::written16), unfolding(crate::specs::Words::le2))]
+    fn put(s: &mut [u8], at: usize, v: u16) {
+        s[at..at + 2].copy_from_slice(&v.to_le_bytes());
+    }
+
+    ghost length_put = { length_put16 };
+
+    ghost get_put_same = { get16_put16_same };
+
+    ghost get_put_other = { get16_put16_other };
+
+    ghost word_in = { word16_in };
+
+    ghost word_out = { word16_out };
 }
 
+impl Word for u32 {
+    ghost use Rattle.words.specs.Words.{get32, put32, word32};
+    ghost use Rattle.words.specs.Laws.{length_put32, get32_put32_same, get32_put32_other, word32_in, word32_out};
+
+    ghost WIDTH = { 4 };
+
+    ghost ZERO = { 0 };
+
+    ghost fits = { λ v. v < 2 ^ 32 };
+
+    ghost get = { get32 };
+
+    ghost put = { put32 };
+
+    ghost word = { word32 };
+
+    const WIDTH: usize = 4;
+
+    const ZERO: u32 = 0;
+
+    #[tactic(auto, unfolding(crate::specs::Words::get32))]
+    fn get(s: &[u8], at: usize) -> u32 {
+        u32::from_le_bytes([s[at], s[at + 1], s[at + 2], s[at + 3]])
+    }
+
+    #[tactic(auto, using(crate::proofs::Writes::written32), unfolding(crate::specs::Words::le4))]
+    fn put(s: &mut [u8], at: usize, v: u32) {
+        s[at..at + 4].copy_from_slice(&v.to_le_bytes());
+    }
+
+    ghost length_put = { length_put32 };
+
+    ghost get_put_same = { get32_put32_same };
+
+    ghost get_put_other = { get32_put32_other };
+
+    ghost word_in = { word32_in };
+
+    ghost word_out = { word32_out };
+}
+
+// The same by names that say the width, for the callers that use them.
 pub fn get16(s: &[u8], at: usize) -> u16
     requires { at + 2 ≤ length s.now }
     ensures { result ≡ get16 s.now at }
 {
-    join2(s[at], s[at + 1])
+    u16::get(s, at)
 }
 
 pub fn get32(s: &[u8], at: usize) -> u32
     requires { at + 4 ≤ length s.now }
     ensures { result ≡ get32 s.now at }
 {
-    join4(s[at], s[at + 1], s[at + 2], s[at + 3])
+    u32::get(s, at)
 }
 
 pub fn put16(s: &mut [u8], at: usize, v: u16)
     requires { at + 2 ≤ length s.old }
     ensures { s.new ≡ put16 s.old at v }
 {
-    s[at] = (v % 256) as u8;
-    s[at + 1] = (v / 256 % 256) as u8;
+    u16::put(s, at, v)
 }
 
 pub fn put32(s: &mut [u8], at: usize, v: u32)
     requires { at + 4 ≤ length s.old }
     ensures { s.new ≡ put32 s.old at v }
 {
-    s[at] = (v % 256) as u8;
-    s[at + 1] = (v / 256 % 256) as u8;
-    s[at + 2] = (v / 65536 % 256) as u8;
-    s[at + 3] = (v / 16777216 % 256) as u8;
+    u32::put(s, at, v)
 }
 
-// The sum `at + 2` could wrap, so the test is by a difference, and by one that a loop over `at` takes only once.
 pub fn word16(s: &[u8], at: usize) -> u16
     ensures { result ≡ word16 s.now at }
 {
-    if 2 <= s.len() {
-        if at <= s.len() - 2 {
-            return get16(s, at);
-        }
-    }
-    0
+    u16::word(s, at)
 }
 
 pub fn word32(s: &[u8], at: usize) -> u32
     ensures { result ≡ word32 s.now at }
 {
-    if 4 <= s.len() {
-        if at <= s.len() - 4 {
-            return get32(s, at);
-        }
-    }
-    0
+    u32::word(s, at)
 }
