@@ -1,8 +1,9 @@
 -- A call's lent tables as the rules' `Tables`, and what holds of the numbers beside the slices.
-use Rattle.std.specs.Prelude.{◌≡◌, List, [], ◌∷◌, ℕ, length}
+use Rattle.std.specs.Prelude.{◌≡◌, length}
 use Rattle.rules.specs.Tables.{Tables, states, kinds, nonterminals, production_count, item_count, Item}
 use Rattle.tables.specs.Places.{call_tables}
 use Rattle.tables.specs.declared.Item as lent
+use Rattle.tables.specs.declared.Lengths.{Lengths}
 use Rattle.tables.specs.declared.Tables.TheInside.{Inside}
 
 abbrev pub tables_of : Inside → Tables
@@ -21,6 +22,15 @@ pub record NumbersRead (a : Inside) : Type 0 where
 abbrev pub item_of : lent.Item → Item
 item_of x = record { state = x.state; production = x.production; dot = x.dot; lookahead = x.lookahead }
 
-abbrev pub lengths_of : Tables → List ℕ
+-- the slices' lengths
+abbrev pub lengths_of : Tables → Lengths
 lengths_of T =
-    length T.sizes ∷ length T.actions ∷ length T.gotos ∷ length T.productions ∷ length T.rights ∷ length T.items ∷ length T.sets ∷ []
+    record {
+      sizes = length T.sizes;
+      actions = length T.actions;
+      gotos = length T.gotos;
+      productions = length T.productions;
+      rights = length T.rights;
+      items = length T.items;
+      sets = length T.sets;
+    }

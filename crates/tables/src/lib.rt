@@ -75,6 +75,18 @@ pub struct Item {
     pub lookahead: u16,
 }
 
+// The slices' lengths in bytes.
+#[derive(Clone, Copy, Debug, PartialEq, Eq)]
+pub struct Lengths {
+    pub sizes: usize,
+    pub actions: usize,
+    pub gotos: usize,
+    pub productions: usize,
+    pub rights: usize,
+    pub items: usize,
+    pub sets: usize,
+}
+
 // The tables of a call: its seven slices in the file's order, and the numbers that stand in the first of them, read once.
 pub struct Tables<'a> {
     sizes: &'a [u8],
@@ -181,19 +193,18 @@ impl<'a> Tables<'a> {
         word16(self.sizes, 10)
     }
 
-    // The slices' lengths in bytes, in the file's order.
-    pub fn lengths(&self) -> [usize; 7]
+    pub fn lengths(&self) -> Lengths
         ensures { result ≡ lengths_of self.now }
     {
-        [
-            self.sizes.len(),
-            self.actions.len(),
-            self.gotos.len(),
-            self.productions.len(),
-            self.rights.len(),
-            self.items.len(),
-            self.sets.len(),
-        ]
+        Lengths {
+            sizes: self.sizes.len(),
+            actions: self.actions.len(),
+            gotos: self.gotos.len(),
+            productions: self.productions.len(),
+            rights: self.rights.len(),
+            items: self.items.len(),
+            sets: self.sets.len(),
+        }
     }
 
     // "Action cells are signed 16-bit, by state." "Goto cells, by state and nonterminal."
