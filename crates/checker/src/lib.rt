@@ -4,7 +4,7 @@
 ghost use Rattle.std.specs.Prelude.{◌≡◌};
 ghost use Rattle.rules.specs.Verdict.{Passes};
 ghost use Rattle.rules.specs.Check.{check};
-ghost use Rattle.tables.specs.Places.{call_tables, verdict_at};
+ghost use Rattle.tables.specs.Places.{verdict_at};
 
 use coming::scan15;
 use following::scan17;
@@ -15,69 +15,37 @@ use shapes::entries::scan11;
 use shapes::items::scan14;
 use shapes::sizes::scan10;
 use shapes::symbols::scan12;
-use tables::Place;
+use tables::Tables;
 
 // What the scan for a number says: the place that it found is refused with that number.
-fn none_at(number: u32, found: Place) -> Result<(), Refusal>
+fn none_at(number: u32, found: Option<u32>) -> Result<(), Refusal>
     ensures { result ≡ verdict_at number found Passes }
 {
     match found {
-        Place::At(place) => Err(Refusal { number, place }),
-        Place::Nowhere => Ok(()),
+        Some(place) => Err(Refusal { number, place }),
+        None => Ok(()),
     }
 }
 
 // "The check, in this order, lowest place first": each scan is made where none before it found a place to refuse.
 #[tactic(auto, using(crate::specs::Chain::check_at))]
-pub fn check(
-    sizes: &[u8],
-    actions: &[u8],
-    gotos: &[u8],
-    productions: &[u8],
-    rights: &[u8],
-    items: &[u8],
-    sets: &[u8],
-) -> Result<(), Refusal>
-    ensures { result ≡ check (call_tables sizes.now actions.now gotos.now productions.now rights.now items.now sets.now) }
+pub fn check(t: &Tables) -> Result<(), Refusal>
+    ensures { result ≡ check t.now }
 {
-    // 10: the sizes, flags and set bits are in range, and the lists are as long as the sizes say.
-    none_at(
-        10,
-        scan10(sizes, actions, gotos, productions, rights, items, sets),
-    )?;
-    // 11: every cell names a state or a production and may stand where it stands.
-    none_at(
-        11,
-        scan11(sizes, actions, gotos, productions, rights, items, sets),
-    )?;
-    // 12: left sides and symbols are in range, and production 0 is shaped as it must be.
-    none_at(
-        12,
-        scan12(sizes, actions, gotos, productions, rights, items, sets),
-    )?;
-    // 13: the nullable flags and first sets are closed under every production.
-    none_at(
-        13,
-        scan13(sizes, actions, gotos, productions, rights, items, sets),
-    )?;
-    // 14: the items are in range and strictly ascending.
-    none_at(
-        14,
-        scan14(sizes, actions, gotos, productions, rights, items, sets),
-    )?;
-    // 15: every item past its production's start was come to over the symbol before its dot.
-    none_at(
-        15,
-        scan15(sizes, actions, gotos, productions, rights, items, sets),
-    )?;
-    // 16: every reduce cell's state has that production's item at its end.
-    none_at(
-        16,
-        scan16(sizes, actions, gotos, productions, rights, items, sets),
-    )?;
-    // 17: every item has its follow-ups, and (0, 0, 0, end) is there.
-    none_at(
-        17,
-        scan17(sizes, actions, gotos, productions, rights, items, sets),
-    )
+    // The sizes, flags and set bits are in range, and the lists are as long as the sizes say.
+    none_at(10, scan10(t))?;
+    // Every cell names a state or a production and may stand where it stands.
+    none_at(11, scan11(t))?;
+    // Left sides and symbols are in range, and production 0 is shaped as it must be.
+    none_at(12, scan12(t))?;
+    // The nullable flags and first sets are closed under every production.
+    none_at(13, scan13(t))?;
+    // The items are in range and strictly ascending.
+    none_at(14, scan14(t))?;
+    // Every item past its production's start was come to over the symbol before its dot.
+    none_at(15, scan15(t))?;
+    // Every reduce cell's state has that production's item at its end.
+    none_at(16, scan16(t))?;
+    // Every item has its follow-ups, and (0, 0, 0, end) is there.
+    none_at(17, scan17(t))
 }

@@ -1,117 +1,46 @@
 // 12: "a symbol or left side is out of range; nonterminal 0 is on a right side or left of another production; production 0 is
-// misshapen". The scan carries the place at which a production's right side starts.
-ghost use Rattle.std.specs.Prelude.{◌≡◌, ◌+◌, ◌<◌, ◌^◌};
+// misshapen".
+ghost use Rattle.std.specs.Prelude.{◌≡◌};
 ghost use Rattle.rules.specs.Tables.{production_count};
-ghost use Rattle.rules.specs.Check.{ok12};
-ghost use Rattle.tables.specs.Places.{call_tables, first_bad, found};
-ghost use Rattle.tables.specs.Fit.{Fit};
-ghost use Rattle.shapes.specs.Productions.{symbol_allowed, symbols_allowed, left_allowed, production_allowed, allowed_at};
+ghost use Rattle.rules.specs.Check.{symbol_fits, left_fits, ok12};
+ghost use Rattle.tables.specs.Places.{found};
 
-use tables::{Place, symbol};
-use words::word16;
+use tables::Tables;
+use tables::scans::{all_below, first_bad};
 
-fn symbol_allowed(t: u16, nonterminals: u16, x: u16) -> bool
-    ensures { result ≡ symbol_allowed t nonterminals x }
+fn symbol_fits(t: &Tables, x: u32) -> bool
+    ensures { result ≡ symbol_fits t.now x }
 {
-    if t as u32 + 1 + nonterminals as u32 <= x as u32 {
-        return false;
-    }
-    x as u32 != t as u32 + 1
-}
-
-// Every symbol of a right side.
-fn symbols_allowed(rights: &[u8], t: u16, nonterminals: u16, from: usize, n: usize) -> bool
-    requires { from + n < 2 ^ 40 }
-    ensures { result ≡ symbols_allowed rights.now t nonterminals from n }
-{
-    let mut d = 0;
-    while d < n {
-        if !symbol_allowed(t, nonterminals, symbol(rights, from + d)) {
-            return false;
-        }
-        d += 1;
-    }
-    true
+    let first = t.kinds() + 1;
+    (x < first + t.nonterminals()) & (x != first)
 }
 
 // Production 0 "is nonterminal 0 to one other nonterminal"; the left side of another one is another nonterminal.
-fn left_allowed(p: usize, side: u16, n: u16, first: u16, t: u16, nonterminals: u16) -> bool
-    ensures { result ≡ left_allowed p side n first t nonterminals }
+fn left_fits(t: &Tables, p: u32) -> bool
+    ensures { result ≡ left_fits t.now p }
 {
+    let side = t.left(p);
     if p == 0 {
-        if side != 0 {
-            return false;
-        }
-        if n != 1 {
-            return false;
-        }
-        return !(first <= t);
+        (side == 0) & (t.size(0) == 1) & !(t.symbol(0, 0) <= t.kinds())
+    } else {
+        (side != 0) & (side < t.nonterminals())
     }
-    if side == 0 {
-        return false;
-    }
-    side < nonterminals
 }
 
 // The test at a production.
-pub fn production_allowed(
-    productions: &[u8],
-    rights: &[u8],
-    t: u16,
-    nonterminals: u16,
-    p: usize,
-    start: usize,
-) -> bool
-    requires { (p < 2 ^ 32) × (start < 2 ^ 39) }
-    ensures { result ≡ production_allowed productions.now rights.now t nonterminals p start }
+pub fn production_fits(t: &Tables, p: u32) -> bool
+    ensures { result ≡ ok12 t.now p }
 {
-    let n = word16(productions, 4 * p + 2);
-    if !left_allowed(
-        p,
-        word16(productions, 4 * p),
-        n,
-        symbol(rights, start),
-        t,
-        nonterminals,
-    ) {
-        return false;
-    }
-    symbols_allowed(rights, t, nonterminals, start, n as usize)
+    let start = t.right_start(p);
+    left_fits(t, p)
+        & all_below(
+            t.size(p),
+            |d| symbol_fits(t, t.symbol_at(start + d as usize)),
+        )
 }
 
-// The first of the productions at which it is false.
-fn scan_allowed(productions: &[u8], rights: &[u8], t: u16, nonterminals: u16, n: u16) -> Place
-    ensures { result ≡ first_bad (allowed_at productions.now rights.now t nonterminals) 0 n }
+pub fn scan12(t: &Tables) -> Option<u32>
+    ensures { result ≡ found ok12 production_count t.now }
 {
-    let mut p: usize = 0;
-    let mut start: usize = 0;
-    while p < n as usize {
-        if !production_allowed(productions, rights, t, nonterminals, p, start) {
-            return Place::At(p as u32);
-        }
-        start += word16(productions, 4 * p + 2) as usize;
-        p += 1;
-    }
-    Place::Nowhere
-}
-
-pub fn scan12(
-    sizes: &[u8],
-    actions: &[u8],
-    gotos: &[u8],
-    productions: &[u8],
-    rights: &[u8],
-    items: &[u8],
-    sets: &[u8],
-) -> Place
-    requires { Fit (call_tables sizes.now actions.now gotos.now productions.now rights.now items.now sets.now) }
-    ensures { result ≡ found ok12 production_count (call_tables sizes.now actions.now gotos.now productions.now rights.now items.now sets.now) }
-{
-    scan_allowed(
-        productions,
-        rights,
-        word16(sizes, 2),
-        word16(sizes, 4),
-        word16(sizes, 6),
-    )
+    first_bad(t.production_count(), |p| production_fits(t, p))
 }

@@ -3,3 +3,4 @@ pub mod Readers
 pub mod Rights
 pub mod Places
 pub mod Fit
+pub mod Lent

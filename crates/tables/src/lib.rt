@@ -1,22 +1,17 @@
 // The tables of a call, read from the bytes of its slices. Every reader is total: a place outside its table is an error cell, a
-// missing goto, or 0, as the rules have it.
+// missing goto, or 0, as the rules have it. `Tables` is a call's seven slices as one value, which a clause sees as the rules'.
 #![tactic(auto)]
 
 ghost use Rattle.std.specs.Prelude.{◌≡◌, ◌+◌, ◌*◌, ◌/◌, ◌%◌, ◌<◌, ◌^◌, get_or};
 ghost use Rattle.words.specs.Words.{word16};
 ghost use Rattle.rules.specs.Tables.{cell_at};
 ghost use Rattle.tables.specs.Readers.{cell_in};
-ghost use Rattle.tables.specs.Rights.{start_in, symbol_in, symbols_in, in_set_in, nullable_in, first_in, all_nullable_in, begins_in};
 
 use rules::Cell;
+use std::marker::Model;
 use words::word16;
 
-// Where a test of the check is first false.
-#[derive(Clone, Copy)]
-pub enum Place {
-    At(u32),
-    Nowhere,
-}
+pub mod scans;
 
 // The cell at a place of a table of cells.
 pub fn cell_at(table: &[u8], place: usize) -> Cell
@@ -56,109 +51,339 @@ pub fn size(productions: &[u8], production: usize) -> usize
     word16(productions, 4 * production + 2) as usize
 }
 
-// The right sides stand one behind the other: where the right side of a production starts, in symbols.
-pub fn right_start(productions: &[u8], production: usize) -> usize
-    requires { production < 2 ^ 40 }
-    ensures { result ≡ start_in productions.now production }
-{
-    let mut sum: usize = 0;
-    let mut p: usize = 0;
-    while p < production {
-        sum += word16(productions, 4 * p + 2) as usize;
-        p += 1;
-    }
-    sum
-}
-
-// The symbol at a place of the right sides.
-pub fn symbol(rights: &[u8], at: usize) -> u16
-    requires { at < 2 ^ 40 }
-    ensures { result ≡ symbol_in rights.now at }
-{
-    word16(rights, 2 * at)
-}
-
 // A byte; past the end 0.
-pub fn byte(s: &[u8], at: usize) -> u8
+fn byte(s: &[u8], at: usize) -> u8
     ensures { result ≡ get_or s.now at 0 }
 {
-    if at < s.len() {
-        return s[at];
-    }
-    0
+    if at < s.len() { s[at] } else { 0 }
 }
 
 // A bit of a byte, counted from the lowest.
-pub fn bit(byte: u8, i: u8) -> u8
+fn bit(byte: u8, i: u8) -> u8
     requires { i < 8 }
     ensures { result ≡ byte / 2 ^ i % 2 }
 {
     (byte >> i) % 2
 }
 
-// "A first set: nullable flag, then 32 bytes, kind k at bit k mod 8 of byte k/8."
-pub fn in_set(sets: &[u8], nonterminal: usize, kind: u16) -> bool
-    requires { nonterminal < 2 ^ 40 }
-    ensures { result ≡ in_set_in sets.now nonterminal kind }
-{
-    let b = byte(sets, 33 * nonterminal + 1 + kind as usize / 8);
-    bit(b, (kind % 8) as u8) == 1
+// "An item is (state, production, dot, lookahead column)." The order of the fields is that of the list: "strictly ascending".
+#[derive(Clone, Copy, Debug, PartialEq, Eq, PartialOrd, Ord)]
+pub struct Item {
+    pub state: u16,
+    pub production: u16,
+    pub dot: u16,
+    pub lookahead: u16,
 }
 
-// Whether a symbol can be nothing: a nonterminal by its flag, and no terminal.
-pub fn nullable(sets: &[u8], t: u16, x: u16) -> bool
-    ensures { result ≡ nullable_in sets.now t x }
-{
-    if x <= t {
-        return false;
-    }
-    byte(sets, 33 * (x as usize - (t as usize + 1))) == 1
+// The slices' lengths in bytes.
+#[derive(Clone, Copy, Debug, PartialEq, Eq)]
+pub struct Lengths {
+    pub sizes: usize,
+    pub actions: usize,
+    pub gotos: usize,
+    pub productions: usize,
+    pub rights: usize,
+    pub items: usize,
+    pub sets: usize,
 }
 
-// Whether a symbol can begin with a kind: a nonterminal by its first set, a terminal with itself.
-pub fn in_first(sets: &[u8], t: u16, x: u16, kind: u16) -> bool
-    ensures { result ≡ first_in sets.now t x kind }
-{
-    if x <= t {
-        return x == kind;
-    }
-    in_set(sets, x as usize - (t as usize + 1), kind)
+// The tables of a call: its seven slices in the file's order, and the numbers that stand in the first of them, read once.
+pub struct Tables<'a> {
+    sizes: &'a [u8],
+    actions: &'a [u8],
+    gotos: &'a [u8],
+    productions: &'a [u8],
+    rights: &'a [u8],
+    items: &'a [u8],
+    sets: &'a [u8],
+    states: u16,
+    kinds: u16,
+    nonterminals: u16,
+    production_count: u16,
+    item_count: u16,
 }
 
-// Whether the n symbols from a place on can all be nothing.
-pub fn all_nullable(rights: &[u8], sets: &[u8], t: u16, from: usize, n: usize) -> bool
-    requires { from + n < 2 ^ 40 }
-    ensures { result ≡ all_nullable_in sets.now t (symbols_in rights.now from n) }
-{
-    let mut at = from;
-    let mut left = n;
-    while 0 < left {
-        if !nullable(sets, t, symbol(rights, at)) {
-            return false;
+impl<'a> Model for Tables<'a> {
+    ghost use Rattle.rules.specs.Tables.{Tables as Lists};
+
+    ghost Value = { Lists };
+
+    ghost use Rattle.tables.specs.Lent.{tables_of, NumbersRead};
+
+    ghost view = { tables_of };
+
+    ghost invariant = { NumbersRead };
+}
+
+impl<'a> Tables<'a> {
+    ghost use Rattle.std.specs.Prelude.{◌≤◌};
+    ghost use Rattle.rules.specs.Tables.{states, kinds, nonterminals, production_count, item_count, flag, columns, symbol_count, cell_at, action, goto, move, left, size, right_start, symbol, item_at, nullable_byte, in_set, nullable, in_first};
+    ghost use Rattle.rules.specs.Check.{all_nullable, begins_with};
+    ghost use Rattle.tables.specs.Places.{call_tables};
+    ghost use Rattle.tables.specs.Rights.{symbol_in, symbols_in};
+    ghost use Rattle.tables.specs.Lent.{item_of, lengths_of};
+
+    pub fn new(
+        sizes: &'a [u8],
+        actions: &'a [u8],
+        gotos: &'a [u8],
+        productions: &'a [u8],
+        rights: &'a [u8],
+        items: &'a [u8],
+        sets: &'a [u8],
+    ) -> Tables<'a>
+        ensures { result ≡ call_tables sizes.now actions.now gotos.now productions.now rights.now items.now sets.now }
+    {
+        Tables {
+            sizes,
+            actions,
+            gotos,
+            productions,
+            rights,
+            items,
+            sets,
+            states: word16(sizes, 0),
+            kinds: word16(sizes, 2),
+            nonterminals: word16(sizes, 4),
+            production_count: word16(sizes, 6),
+            item_count: word16(sizes, 8),
         }
-        at += 1;
-        left -= 1;
     }
-    true
-}
 
-// Whether the n symbols from a place on can begin with a kind, "by the given sets".
-pub fn begins_with(rights: &[u8], sets: &[u8], t: u16, from: usize, n: usize, kind: u16) -> bool
-    requires { from + n < 2 ^ 40 }
-    ensures { result ≡ begins_in sets.now t (symbols_in rights.now from n) kind }
-{
-    let mut at = from;
-    let mut left = n;
-    while 0 < left {
-        let x = symbol(rights, at);
-        if in_first(sets, t, x, kind) {
-            return true;
-        }
-        if !nullable(sets, t, x) {
-            return false;
-        }
-        at += 1;
-        left -= 1;
+    // "Sizes: states, t, nonterminals, productions, items, flag." Each is a 16-bit number.
+    pub fn states(&self) -> u32
+        ensures value { result ≡ states self.now }
+        ensures bound { result < 2 ^ 16 }
+    {
+        self.states as u32
     }
-    false
+
+    pub fn kinds(&self) -> u32
+        ensures value { result ≡ kinds self.now }
+        ensures bound { result < 2 ^ 16 }
+    {
+        self.kinds as u32
+    }
+
+    pub fn nonterminals(&self) -> u32
+        ensures value { result ≡ nonterminals self.now }
+        ensures bound { result < 2 ^ 16 }
+    {
+        self.nonterminals as u32
+    }
+
+    pub fn production_count(&self) -> u32
+        ensures value { result ≡ production_count self.now }
+        ensures bound { result < 2 ^ 16 }
+    {
+        self.production_count as u32
+    }
+
+    pub fn item_count(&self) -> u32
+        ensures value { result ≡ item_count self.now }
+        ensures bound { result < 2 ^ 16 }
+    {
+        self.item_count as u32
+    }
+
+    #[tactic(auto, unfolding(rules::specs::Tables::flag))]
+    pub fn flag(&self) -> u16
+        ensures { result ≡ flag self.now }
+    {
+        word16(self.sizes, 10)
+    }
+
+    pub fn lengths(&self) -> Lengths
+        ensures { result ≡ lengths_of self.now }
+    {
+        Lengths {
+            sizes: self.sizes.len(),
+            actions: self.actions.len(),
+            gotos: self.gotos.len(),
+            productions: self.productions.len(),
+            rights: self.rights.len(),
+            items: self.items.len(),
+            sets: self.sets.len(),
+        }
+    }
+
+    // "Action cells are signed 16-bit, by state." "Goto cells, by state and nonterminal."
+    pub fn action(&self, state: u32, column: u32) -> Cell
+        ensures { result ≡ action self.now state column }
+    {
+        cell_in(
+            self.actions,
+            self.states as usize,
+            self.kinds as usize + 2,
+            state as usize,
+            column as usize,
+        )
+    }
+
+    pub fn goto(&self, state: u32, nonterminal: u32) -> Cell
+        ensures { result ≡ goto self.now state nonterminal }
+    {
+        cell_in(
+            self.gotos,
+            self.states as usize,
+            self.nonterminals as usize,
+            state as usize,
+            nonterminal as usize,
+        )
+    }
+
+    // The transition on a symbol: its shift, or its goto.
+    pub fn transition(&self, state: u32, symbol: u32) -> Cell
+        ensures { result ≡ move self.now state symbol }
+    {
+        let kinds = self.kinds();
+        if symbol <= kinds {
+            self.action(state, symbol)
+        } else {
+            self.goto(state, symbol - (kinds + 1))
+        }
+    }
+
+    // The cells by their places.
+    pub fn action_cell(&self, place: u32) -> Cell
+        ensures { result ≡ cell_at self.now.actions place }
+    {
+        cell_at(self.actions, place as usize)
+    }
+
+    pub fn goto_cell(&self, place: u32) -> Cell
+        ensures { result ≡ cell_at self.now.gotos place }
+    {
+        cell_at(self.gotos, place as usize)
+    }
+
+    // "productions (left side, length)"
+    #[tactic(auto, unfolding(rules::specs::Tables::left))]
+    pub fn left(&self, production: u32) -> u32
+        ensures value { result ≡ left self.now production }
+        ensures bound { result < 2 ^ 16 }
+    {
+        word16(self.productions, 4 * production as usize) as u32
+    }
+
+    #[tactic(auto, unfolding(rules::specs::Tables::size))]
+    pub fn size(&self, production: u32) -> u32
+        ensures value { result ≡ size self.now production }
+        ensures bound { result < 2 ^ 16 }
+    {
+        word16(self.productions, 4 * production as usize + 2) as u32
+    }
+
+    // The right sides stand one behind the other: where the right side of a production starts, in symbols.
+    pub fn right_start(&self, production: u32) -> usize
+        ensures value { result ≡ right_start self.now production }
+        ensures bound { result ≤ 65535 * production }
+    {
+        let mut sum = 0;
+        for p in 0..production {
+            sum += self.size(p) as usize;
+        }
+        sum
+    }
+
+    // The symbol at a place of the right sides, and the one behind a dot.
+    #[tactic(auto, unfolding(crate::specs::Rights::symbol_in))]
+    pub fn symbol_at(&self, at: usize) -> u32
+        requires { at < 2 ^ 62 }
+        ensures value { result ≡ symbol_in self.now.rights at }
+        ensures bound { result < 2 ^ 16 }
+    {
+        word16(self.rights, 2 * at) as u32
+    }
+
+    pub fn symbol(&self, production: u32, dot: u32) -> u32
+        ensures value { result ≡ symbol self.now production dot }
+        ensures bound { result < 2 ^ 16 }
+    {
+        self.symbol_at(self.right_start(production) + dot as usize)
+    }
+
+    // "An item is (state, production, dot, lookahead column)."
+    #[tactic(auto, unfolding(rules::specs::Tables::item_at))]
+    pub fn item(&self, i: u32) -> Item
+        ensures { item_of result ≡ item_at self.now i }
+    {
+        let at = 8 * i as usize;
+        Item {
+            state: word16(self.items, at),
+            production: word16(self.items, at + 2),
+            dot: word16(self.items, at + 4),
+            lookahead: word16(self.items, at + 6),
+        }
+    }
+
+    // "A first set: nullable flag, then 32 bytes, kind k at bit k mod 8 of byte k/8."
+    #[tactic(auto, unfolding(rules::specs::Tables::nullable_byte))]
+    pub fn nullable_byte(&self, nonterminal: u32) -> u8
+        ensures { result ≡ nullable_byte self.now nonterminal }
+    {
+        byte(self.sets, 33 * nonterminal as usize)
+    }
+
+    #[tactic(auto, unfolding(rules::specs::Tables::in_set))]
+    pub fn in_set(&self, nonterminal: u32, kind: u32) -> bool
+        ensures { result ≡ in_set self.now nonterminal kind }
+    {
+        let b = byte(self.sets, 33 * nonterminal as usize + 1 + kind as usize / 8);
+        bit(b, (kind % 8) as u8) == 1
+    }
+
+    // Whether a symbol can be nothing: a nonterminal by its flag, and no terminal.
+    pub fn nullable(&self, symbol: u32) -> bool
+        ensures { result ≡ nullable self.now symbol }
+    {
+        let kinds = self.kinds();
+        if symbol <= kinds {
+            false
+        } else {
+            self.nullable_byte(symbol - (kinds + 1)) == 1
+        }
+    }
+
+    // Whether a symbol can begin with a kind: a nonterminal by its first set, a terminal with itself.
+    pub fn in_first(&self, symbol: u32, kind: u32) -> bool
+        ensures { result ≡ in_first self.now symbol kind }
+    {
+        let kinds = self.kinds();
+        if symbol <= kinds {
+            symbol == kind
+        } else {
+            self.in_set(symbol - (kinds + 1), kind)
+        }
+    }
+
+    // Whether the n symbols from a place on can all be nothing.
+    pub fn all_nullable(&self, from: usize, n: u32) -> bool
+        requires { from < 2 ^ 61 }
+        ensures { result ≡ all_nullable self.now (symbols_in self.now.rights from n) }
+    {
+        for d in 0..n {
+            if !self.nullable(self.symbol_at(from + d as usize)) {
+                return false;
+            }
+        }
+        true
+    }
+
+    // Whether the n symbols from a place on can begin with a kind, "by the given sets".
+    pub fn begins_with(&self, from: usize, n: u32, kind: u32) -> bool
+        requires { from < 2 ^ 61 }
+        ensures { result ≡ begins_with self.now (symbols_in self.now.rights from n) kind }
+    {
+        for d in 0..n {
+            let x = self.symbol_at(from + d as usize);
+            if self.in_first(x, kind) {
+                return true;
+            }
+            if !self.nullable(x) {
+                return false;
+            }
+        }
+        false
+    }
 }

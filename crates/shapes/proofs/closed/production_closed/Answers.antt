@@ -1,14 +1,24 @@
--- `shapes::closed::production_closed` is the spec's conjunction at the numbers read: the flag, then every kind.
+-- `closed::production_closed`: the flag, and each kind, of the right side from the place at which it starts.
 -- Assumes nothing.
-use borrow.Author.Tests.{not-false, not-true}
-use Rattle.shapes.specs.Productions.{production_closed}
-use Rattle.std.proofs.lemmas.Bool.{not_from_false, not_from_true}
+use borrow.Author.Rules.{rules}
+use Rattle.std.specs.Prelude.{◌||◌, not}
+use Rattle.rules.specs.Tables.{left, symbol_of, rhs, in_first}
+use Rattle.rules.specs.Check.{begins_with, ok13}
+use Rattle.tables.specs.Rights.{rhs_in}
 use Rattle.shapes.proofs.closed.production_closed.Goals as goal
 
-pub returns-then-not-flag_closed : goal.returns-then-not-flag_closed
-unfolding production_closed
-returns-then-not-flag_closed c = rw (← c.word16-side.ensures, ← c.word16-n.ensures, ← c.flag_closed.ensures, not-true c.flag_closed.result (not_from_false _ c.if-not-flag_closed.true))
-
 pub returns : goal.returns
-unfolding production_closed
-returns c = rw (← c.word16-side.ensures, ← c.word16-n.ensures, ← c.flag_closed.ensures, not-false c.flag_closed.result (not_from_true _ c.if-not-flag_closed.false)) c.kinds_closed.ensures
+unfolding ok13
+returns c =
+    let T = c.args.t.now in
+    let p = c.args.p in
+    rw (
+      c.all_nullable.ensures,
+      c.nullable.ensures,
+      c.all_below.ensures (λ k. not (begins_with T (rhs T p) k) || in_first T (symbol_of T (left T p)) k) (λ i b h e. rw (rhs_in T p, ← c.right_start-start.ensures.value, ← c.size-n.ensures.value, ← c.kinds-kinds.ensures.value, ← c.left.ensures.value) (search rules)),
+      c.right_start-start.ensures.value,
+      c.size-n.ensures.value,
+      c.kinds-kinds.ensures.value,
+      c.left.ensures.value,
+      ← rhs_in T p,
+    )

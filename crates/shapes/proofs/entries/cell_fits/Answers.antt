@@ -1,16 +1,15 @@
--- `shapes::entries::cell_fits` is the test at a place: an action below their number, a goto from there on.
+-- `entries::cell_fits` judges an action cell, and behind those a goto, by the place.
 -- Assumes nothing.
-use Prim.Native.Nat.{◌+◌}
-use native.Mathlib.Omega.{arith}
-use Rattle.tables.specs.Readers.{row_lt}
-use Rattle.shapes.specs.Cells.{cell_action, cell_goto}
+use Rattle.std.proofs.Common.{lt-ltb, le-ltb}
+use Rattle.rules.specs.Check.{ok11}
 use Rattle.shapes.proofs.entries.cell_fits.Goals as goal
 
-pub overflow_mul-n : goal.overflow_mul-n
-overflow_mul-n c = omega (arith, row_lt 65536 (c.args.t + 2) c.args.states (omega arith) (omega arith) (omega arith))
+pub returns-then-i-actions : goal.returns-then-i-actions
+unfolding ok11
+returns-then-i-actions c =
+    rw (← c.kinds-columns.ensures.value, ← c.states.ensures.value, lt-ltb _ _ c.if-i-actions.true, ← c.action_cell.ensures) c.action_fits.ensures
 
-pub returns-then-i-n : goal.returns-then-i-n
-returns-then-i-n c = rw (cell_action _ _ _ _ _ _ c.if-i-n.true, ← c.cell_at.ensures) c.action_fits.ensures
-
-pub returns : goal.returns
-returns c = rw (cell_goto _ _ _ _ _ _ c.if-i-n.false, ← c.cell_at-2.ensures) c.goto_fits.ensures
+pub returns-else-i-actions : goal.returns-else-i-actions
+unfolding ok11
+returns-else-i-actions c =
+    rw (← c.kinds-columns.ensures.value, ← c.states.ensures.value, le-ltb _ _ c.if-i-actions.false, ← c.goto_cell.ensures) c.goto_fits.ensures

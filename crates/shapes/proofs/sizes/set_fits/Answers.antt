@@ -1,13 +1,13 @@
--- `shapes::sizes::set_fits` is the spec's conjunction: the nullable flag, then every bit.
+-- A set: its flag, and each bit.
 -- Assumes nothing.
-use borrow.Author.Tests.{le-leb, lt-leb}
-use Rattle.shapes.specs.Sizes.{set_in}
+use borrow.Author.Rules.{rules}
+use Rattle.std.specs.Prelude.{◌||◌, not, leb}
+use Rattle.rules.specs.Tables.{kinds, in_set}
+use Rattle.rules.specs.Check.{set_fits}
 use Rattle.shapes.proofs.sizes.set_fits.Goals as goal
 
-pub returns-then-byte-gt1 : goal.returns-then-byte-gt1
-unfolding set_in
-returns-then-byte-gt1 c = rw (← c.byte.ensures, lt-leb _ _ c.if-byte-gt1.true)
-
 pub returns : goal.returns
-unfolding set_in
-returns c = rw (← c.byte.ensures, le-leb _ _ c.if-byte-gt1.false) c.bits_fit.ensures
+unfolding set_fits
+returns c =
+    let T = c.args.t.now in
+    rw (c.nullable_byte.ensures, c.all_below.ensures (λ k. leb k (kinds T) || not (in_set T c.args.nonterminal k)) (λ i b h e. search rules))
