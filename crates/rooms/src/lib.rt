@@ -11,7 +11,7 @@ ghost use Rattle.model.specs.Bytes.{put_entry, put_node, state_at, node_at, star
 use rules::{Entry, What};
 use words::{get32, put32, word32};
 
-// Words, one behind the other.
+// Words, one behind the other: the compiler unrolls the loop, for four words and for eight.
 pub fn put_words<const N: usize>(s: &mut [u8], at: usize, words: [u32; N])
     requires { at + 4 * N ≤ length s.old }
     ensures { s.new ≡ put_words s.old at words.entry }
@@ -36,9 +36,7 @@ pub fn which_of(w: What) -> u32
     ensures { result ≡ which_of w }
 {
     match w {
-        What::Read(i) => i,
-        What::Mark(i) => i,
-        What::Production(p) => p,
+        What::Read(i) | What::Mark(i) | What::Production(i) => i,
     }
 }
 
