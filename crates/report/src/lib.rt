@@ -12,7 +12,7 @@ use records::{Actions, ones_of};
 use rooms::put_words;
 use rules::Answer;
 
-// "1 accepted" to "23 records"
+// "1 accepted" to "23 records". A function, since `From<Answer> for u32` would have to stand beside the type, in a crate without functions.
 pub fn number_of(answer: Answer) -> u32
     ensures { result ≡ number_of answer }
 {
