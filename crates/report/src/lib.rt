@@ -88,7 +88,8 @@ pub fn put_report(
     records: u32,
 )
     requires { length report.old ≡ 64 }
-    ensures { (T : Tables) → Row T actions.entry.bytes.now actions.entry.states actions.entry.kinds → report.new ≡ bytes_of (answer_words T answer units nodes children records) }
+    ensures { (T : Tables) → Row T actions.entry.bytes.now actions.entry.states actions.entry.kinds → report.new ≡
+        bytes_of (answer_words T answer units nodes children records) }
 {
     let words = expected_of(actions, answer);
     put_words(
