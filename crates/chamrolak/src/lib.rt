@@ -14,6 +14,7 @@ ghost use Rattle.chamrolak.specs.Reached.{Counted, given_of, used};
 use driver::{depth_of, drive};
 use model::St;
 use moves::Given;
+use records::Actions;
 use report::{number_of, put_report, value_of};
 use rules::Refusal;
 use shapes::tokens::tokens_fit;
@@ -153,9 +154,11 @@ fn answer_all(
     );
     let answer = st.answer;
     put_report(
-        actions,
-        states as usize,
-        kinds as usize,
+        Actions {
+            bytes: actions,
+            states: states as usize,
+            kinds: kinds as usize,
+        },
         report,
         answer,
         st.units as u32,

@@ -13,7 +13,7 @@ ghost use Rattle.moves.specs.Bounds.{Small, Fine};
 use model::{Mode, St};
 use moves::{Given, ended, grown, simulating};
 use pushes::{end_below, target};
-use records::put_record;
+use records::{Actions, put_record};
 use rooms::{end_at, first_at, put_entry, put_node, start_at, token_end, token_start, top_at};
 use rules::{Answer, Cell, Entry, StateNo, What};
 use tables::cell_in;
@@ -185,7 +185,17 @@ fn marked(
     let mark = st.records;
     let next = st.next;
     let formed = st.formed;
-    put_record(actions, states, kinds, records, mark, formed, e);
+    put_record(
+        Actions {
+            bytes: actions,
+            states,
+            kinds,
+        },
+        records,
+        mark,
+        formed,
+        e,
+    );
     put_entry(stack, rest, e);
     put_node(nodes, node, e, 0, 0);
     grown(st, rest + 1, 0, 1, next, Mode::Main)

@@ -1,7 +1,6 @@
 -- `chamrolak::answer_all` leaves what the rules' reply leaves: the run's rooms by the refinement, and the report of its end.
 -- Assumes nothing.
 use mathlib.Core.Path.{refl, sym}
-use native.Mathlib.Omega.{arith}
 use Rattle.rules.specs.Tables.{states, kinds}
 use Rattle.tables.specs.Places.{call_tables}
 use Rattle.chamrolak.specs.Exit.{lent}
@@ -13,9 +12,6 @@ overflow_cast-st-3 c = record { fits = c.run_all-st.ensures.counted.children }
 
 pub overflow_cast-st-4 : goal.overflow_cast-st-4
 overflow_cast-st-4 c = record { fits = c.run_all-st.ensures.counted.records }
-
-pub put_report-requires : goal.put_report-requires
-put_report-requires c = let a = c.word16-states in let b = c.word16-kinds in let p = c.requires in (omega arith, omega arith, p.1)
 
 pub shape_of-stack : goal.shape_of-stack
 shape_of-stack c = c.run_all-st.auto.stack
