@@ -35,29 +35,19 @@ pub fn counted(st: St) -> St
     requires { st.units < 2 ^ 32 }
     ensures { result ≡ counted st }
 {
-    let mut r = st;
-    r.units = st.units + 1;
-    r
+    St {
+        units: st.units + 1,
+        ..st
+    }
 }
 
 pub fn ended(st: St, answer: Answer) -> St
     ensures { result ≡ ended st answer }
 {
-    let formed = st.formed;
     St {
-        height: st.height,
-        nodes: st.nodes,
-        children: st.children,
-        records: st.records,
-        units: st.units,
-        next: st.next,
-        last: st.last,
         mode: Mode::Ended,
-        formed,
-        popped: st.popped,
-        base: st.base,
-        pushed: st.pushed,
         answer,
+        ..st
     }
 }
 
@@ -65,51 +55,26 @@ pub fn ended(st: St, answer: Answer) -> St
 pub fn read_to(st: St, last: u32) -> St
     ensures { result ≡ read_to st last }
 {
-    let mut r = st;
-    r.last = last;
-    r
+    St { last, ..st }
 }
 
 pub fn failing(st: St, formed: Formed) -> St
     ensures { result ≡ failing st formed }
 {
-    let answer = st.answer;
     St {
-        height: st.height,
-        nodes: st.nodes,
-        children: st.children,
-        records: st.records,
-        units: st.units,
-        next: st.next,
-        last: st.last,
         mode: Mode::Column,
         formed,
-        popped: st.popped,
-        base: st.base,
-        pushed: st.pushed,
-        answer,
+        ..st
     }
 }
 
 pub fn searching(st: St, popped: usize) -> St
     ensures { result ≡ searching st popped }
 {
-    let formed = st.formed;
-    let answer = st.answer;
     St {
-        height: st.height,
-        nodes: st.nodes,
-        children: st.children,
-        records: st.records,
-        units: st.units,
-        next: st.next,
-        last: st.last,
         mode: Mode::Search,
-        formed,
         popped,
-        base: st.base,
-        pushed: st.pushed,
-        answer,
+        ..st
     }
 }
 
@@ -117,44 +82,22 @@ pub fn dropped(st: St) -> St
     requires { st.next < 2 ^ 32 }
     ensures { result ≡ dropped st }
 {
-    let formed = st.formed;
-    let answer = st.answer;
     St {
-        height: st.height,
-        nodes: st.nodes,
-        children: st.children,
-        records: st.records,
-        units: st.units,
         next: st.next + 1,
-        last: st.last,
         mode: Mode::Search,
-        formed,
         popped: 0,
-        base: st.base,
-        pushed: st.pushed,
-        answer,
+        ..st
     }
 }
 
 pub fn simulating(st: St, base: usize, pushed: usize) -> St
     ensures { result ≡ simulating st base pushed }
 {
-    let formed = st.formed;
-    let answer = st.answer;
     St {
-        height: st.height,
-        nodes: st.nodes,
-        children: st.children,
-        records: st.records,
-        units: st.units,
-        next: st.next,
-        last: st.last,
         mode: Mode::Simulate,
-        formed,
-        popped: st.popped,
         base,
         pushed,
-        answer,
+        ..st
     }
 }
 
@@ -163,22 +106,14 @@ pub fn grown(st: St, height: usize, kids: usize, marks: usize, next: usize, mode
     requires { (st.nodes < 2 ^ 32) × (st.children + kids < 2 ^ 33) × (st.records < 2 ^ 32) × (marks < 2 ^ 32) }
     ensures { result ≡ grown st height kids marks next mode }
 {
-    let formed = st.formed;
-    let answer = st.answer;
     St {
         height,
         nodes: st.nodes + 1,
         children: st.children + kids,
         records: st.records + marks,
-        units: st.units,
         next,
-        last: st.last,
         mode,
-        formed,
-        popped: st.popped,
-        base: st.base,
-        pushed: st.pushed,
-        answer,
+        ..st
     }
 }
 
@@ -187,10 +122,9 @@ fn unknown(tokens: &[u8], st: St, top: u32) -> St
     requires { st.next < 2 ^ 32 }
     ensures { result ≡ unknown_at tokens.now st top }
 {
-    let next = st.next;
     ended(
-        read_to(st, token_end(tokens, next)),
-        Answer::UnrecognizedToken(next as u32, StateNo(top)),
+        read_to(st, token_end(tokens, st.next)),
+        Answer::UnrecognizedToken(st.next as u32, StateNo(top)),
     )
 }
 
@@ -199,14 +133,12 @@ fn judge(g: &Given, st: St, top: u32) -> St
     requires { st.next < 2 ^ 32 }
     ensures { (C : Call) → Reads C g.now → result ≡ judged C st top }
 {
-    let next = st.next;
-    let kinds = g.kinds;
-    let kind = token_kind(g.tokens, next) as usize;
+    let kind = token_kind(g.tokens, st.next) as usize;
     if kind == 65535 {
-        return ended(st, Answer::TokenizerError(next as u32));
+        return ended(st, Answer::TokenizerError(st.next as u32));
     }
-    if kind < kinds {
-        return read_to(st, token_end(g.tokens, next));
+    if kind < g.kinds {
+        return read_to(st, token_end(g.tokens, st.next));
     }
     unknown(g.tokens, st, top)
 }
@@ -216,9 +148,7 @@ pub fn arrive(g: &Given, st: St, top: u32) -> St
     requires { st.next < 2 ^ 32 }
     ensures { (C : Call) → Reads C g.now → result ≡ arrived C st top }
 {
-    let next = st.next;
-    let count = g.count;
-    if next < count {
+    if st.next < g.count {
         return judge(g, st, top);
     }
     st
@@ -228,12 +158,10 @@ pub fn arrive(g: &Given, st: St, top: u32) -> St
 pub fn answer_of(f: Formed) -> Answer
     ensures { result ≡ answer_of f }
 {
-    let number = f.number;
-    let top = f.top;
-    if number == 3 {
-        return Answer::UnrecognizedToken(f.at, top);
+    if f.number == 3 {
+        return Answer::UnrecognizedToken(f.at, f.top);
     }
-    Answer::UnrecognizedEnd(f.at, top)
+    Answer::UnrecognizedEnd(f.at, f.top)
 }
 
 // "Flag 0: an error cell gives 3, or 4 at the end, at once. Recovery, flag 1: form the error".
@@ -241,8 +169,7 @@ pub fn fail(g: &Given, st: St, f: Formed) -> St
     ensures { (C : Call) (stack scratch nodes children records : List ℕ) → eqb (flag C.tables) 1 ≡ g.now.recovers →
         world stack scratch nodes children records result ≡ fail C (world stack scratch nodes children records st) f }
 {
-    let recovers = g.recovers;
-    if recovers {
+    if g.recovers {
         return failing(st, f);
     }
     ended(st, answer_of(f))
@@ -255,14 +182,10 @@ fn drop_token(g: &Given, stack: &[u8], st: St) -> St
         world stack.now scratch nodes children records result ≡
         drop_token C (world stack.now scratch nodes children records st) }
 {
-    let next = st.next;
-    let count = g.count;
-    let height = st.height;
-    let formed = st.formed;
-    if next < count {
-        return arrive(g, dropped(st), top_at(stack, height));
+    if st.next < g.count {
+        return arrive(g, dropped(st), top_at(stack, st.height));
     }
-    ended(st, answer_of(formed))
+    ended(st, answer_of(st.formed))
 }
 
 // "If the error cell is not a shift, look further down."
@@ -272,10 +195,8 @@ pub fn further(g: &Given, stack: &[u8], st: St) -> St
         world stack.now scratch nodes children records result ≡
         further C (world stack.now scratch nodes children records st) }
 {
-    let popped = st.popped;
-    let height = st.height;
-    if popped < height {
-        return searching(st, popped + 1);
+    if st.popped < st.height {
+        return searching(st, st.popped + 1);
     }
     drop_token(g, stack, st)
 }

@@ -4,10 +4,10 @@ use borrow.Author.Tests.{eq-eqb, ne_eqb}
 use Rattle.rules.specs.Driving.{answer_of}
 use Rattle.moves.proofs.answer_of.Goals as goal
 
-pub returns-then-number-eq3 : goal.returns-then-number-eq3
+pub returns-then-f-eq3 : goal.returns-then-f-eq3
 unfolding answer_of
-returns-then-number-eq3 c = rw (eq-eqb _ _ c.if-number-eq3.true)
+returns-then-f-eq3 c = rw (eq-eqb _ _ c.if-f-eq3.true)
 
 pub returns : goal.returns
 unfolding answer_of
-returns c = rw (ne_eqb _ _ c.if-number-eq3.false)
+returns c = rw (ne_eqb _ _ c.if-f-eq3.false)

@@ -4,10 +4,10 @@ use Rattle.model.specs.Model.{arrived}
 use Rattle.moves.specs.Serving.{has_token_law, no_token_law}
 use Rattle.moves.proofs.arrive.Goals as goal
 
-pub returns-then-next-count : goal.returns-then-next-count
+pub returns-then-st-g : goal.returns-then-st-g
 unfolding arrived
-returns-then-next-count c = λ C m. rw (has_token_law m _ c.if-next-count.true) (c.judge.ensures C m)
+returns-then-st-g c = λ C m. rw (has_token_law m _ c.if-st-g.true) (c.judge.ensures C m)
 
 pub returns : goal.returns
 unfolding arrived
-returns c = λ C m. rw (no_token_law m _ c.if-next-count.false)
+returns c = λ C m. rw (no_token_law m _ c.if-st-g.false)

@@ -9,10 +9,10 @@ pub arrive-requires : goal.arrive-requires
 arrive-requires c = let p = c.requires in rw c.dropped.ensures
     (omega arith)
 
-pub returns-then-next-count : goal.returns-then-next-count
+pub returns-then-st-g : goal.returns-then-st-g
 unfolding drop_token
-returns-then-next-count c = λ C scratch nodes children records m. rw (
-  has_token_law m _ c.if-next-count.true,
+returns-then-st-g c = λ C scratch nodes children records m. rw (
+  has_token_law m _ c.if-st-g.true,
   ← c.dropped.ensures,
   ← c.top_at.ensures,
   c.arrive.ensures C m,
@@ -21,7 +21,7 @@ returns-then-next-count c = λ C scratch nodes children records m. rw (
 pub returns : goal.returns
 unfolding drop_token
 returns c = λ C scratch nodes children records m. rw (
-  no_token_law m _ c.if-next-count.false,
+  no_token_law m _ c.if-st-g.false,
   c.ended.ensures,
   c.answer_of.ensures,
 )

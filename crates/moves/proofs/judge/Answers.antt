@@ -9,14 +9,14 @@ unfolding judged
 returns-then-kind-eq65535 c = λ C m. rw (m.tokens_are, ← c.token_kind-kind.ensures, eq-eqb _ _ c.if-kind-eq65535.true)
     c.ended.ensures
 
-pub returns-then-kind-kinds : goal.returns-then-kind-kinds
+pub returns-then-kind-g : goal.returns-then-kind-g
 unfolding judged
-returns-then-kind-kinds c = λ C m. rw (
+returns-then-kind-g c = λ C m. rw (
   m.tokens_are,
   m.kinds_are,
   ← c.token_kind-kind.ensures,
   ne_eqb _ _ c.if-kind-eq65535.false,
-  lt-ltb _ _ c.if-kind-kinds.true,
+  lt-ltb _ _ c.if-kind-g.true,
   ← c.token_end.ensures,
 ) c.read_to.ensures
 
@@ -27,5 +27,5 @@ returns c = λ C m. rw (
   m.kinds_are,
   ← c.token_kind-kind.ensures,
   ne_eqb _ _ c.if-kind-eq65535.false,
-  le-ltb _ _ c.if-kind-kinds.false,
+  le-ltb _ _ c.if-kind-g.false,
 ) c.unknown.ensures
