@@ -5,28 +5,20 @@
 ghost use Rattle.std.specs.Prelude.{◌≡◌, ◌+◌, ◌*◌, ◌-◌, ◌≤◌, ◌<◌, ◌^◌, length};
 ghost use Rattle.words.specs.Words.{word32};
 ghost use Rattle.rules.specs.Answers.{kind_of, which_of};
-ghost use Rattle.model.specs.Bytes.{put4, put8, put_entry, put_node, state_at, node_at, start_at, end_at, first_at, after_at, top_at, copy_nodes, scratch_at, sim_top};
+ghost use Rattle.rooms.specs.Put.{put_words};
+ghost use Rattle.model.specs.Bytes.{put_entry, put_node, state_at, node_at, start_at, end_at, first_at, after_at, top_at, copy_nodes, scratch_at, sim_top};
 
 use rules::{Entry, What};
 use words::{get32, put32, word32};
 
-// Four words, and eight.
-pub fn put4(s: &mut [u8], at: usize, a: u32, b: u32, c: u32, d: u32)
-    requires { at + 16 ≤ length s.old }
-    ensures { s.new ≡ put4 s.old at a b c d }
+// Words, one behind the other.
+pub fn put_words<const N: usize>(s: &mut [u8], at: usize, words: [u32; N])
+    requires { at + 4 * N ≤ length s.old }
+    ensures { s.new ≡ put_words s.old at words.entry }
 {
-    put32(s, at, a);
-    put32(s, at + 4, b);
-    put32(s, at + 8, c);
-    put32(s, at + 12, d);
-}
-
-pub fn put8(s: &mut [u8], at: usize, a: u32, b: u32, c: u32, d: u32, e: u32, f: u32, g: u32, h: u32)
-    requires { at + 32 ≤ length s.old }
-    ensures { s.new ≡ put8 s.old at a b c d e f g h }
-{
-    put4(s, at, a, b, c, d);
-    put4(s, at + 16, e, f, g, h);
+    for (i, word) in words.iter().enumerate() {
+        put32(s, at + 4 * i, *word);
+    }
 }
 
 // "kind (0 token, 1 mark, 2 production), number (of that token, record or production)"
@@ -55,19 +47,19 @@ pub fn put_entry(s: &mut [u8], i: usize, e: Entry)
     requires { 32 * i + 32 ≤ length s.old }
     ensures { s.new ≡ put_entry s.old i e }
 {
-    let what = e.what;
-    let state = e.state;
-    put8(
+    put_words(
         s,
         32 * i,
-        state.0,
-        e.node,
-        kind_of(what),
-        which_of(what),
-        e.start,
-        e.end,
-        e.first,
-        e.after,
+        [
+            e.state.0,
+            e.node,
+            kind_of(e.what),
+            which_of(e.what),
+            e.start,
+            e.end,
+            e.first,
+            e.after,
+        ],
     );
 }
 
@@ -76,18 +68,19 @@ pub fn put_node(s: &mut [u8], i: usize, e: Entry, child: u32, count: u32)
     requires { 32 * i + 32 ≤ length s.old }
     ensures { s.new ≡ put_node s.old i e child count }
 {
-    let what = e.what;
-    put8(
+    put_words(
         s,
         32 * i,
-        kind_of(what),
-        which_of(what),
-        child,
-        count,
-        e.start,
-        e.end,
-        e.first,
-        e.after,
+        [
+            kind_of(e.what),
+            which_of(e.what),
+            child,
+            count,
+            e.start,
+            e.end,
+            e.first,
+            e.after,
+        ],
     );
 }
 
@@ -150,10 +143,8 @@ pub fn copy_nodes(children: &mut [u8], at: usize, stack: &[u8], from: usize, n: 
     requires { (4 * (at + n) ≤ length children.old) × (32 * (from + n) ≤ length stack.now) }
     ensures { children.new ≡ copy_nodes n children.old at stack.now from }
 {
-    let mut i: usize = 0;
-    while i < n {
+    for i in 0..n {
         put32(children, 4 * (at + i), node_at(stack, from + i));
-        i += 1;
     }
 }
 

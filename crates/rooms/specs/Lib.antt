@@ -1,0 +1,2 @@
+-- Words in a row, as the code writes them.
+pub mod Put
