@@ -10,7 +10,7 @@ ghost use Rattle.moves.specs.Serving.{Reads, world, unknown_at};
 ghost use Rattle.moves.specs.Bounds.{Small, Fine};
 
 use model::{Mode, St};
-use rooms::{token_end, token_kind, top_at};
+use rooms::{token_at, top_at};
 use rules::{Answer, Formed, StateNo};
 
 // A call, but for its rooms: the tables' slices and sizes, whether the flag is 1, the tokens and how many they are, the start
@@ -58,6 +58,7 @@ pub fn read_to(st: St, last: u32) -> St
     St { last, ..st }
 }
 
+#[tactic(auto, unfolding(model::specs::Model::fail))]
 pub fn failing(st: St, formed: Formed) -> St
     ensures { result ≡ failing st formed }
 {
@@ -123,27 +124,29 @@ fn unknown(tokens: &[u8], st: St, top: u32) -> St
     ensures { result ≡ unknown_at tokens.now st top }
 {
     ended(
-        read_to(st, token_end(tokens, st.next)),
+        read_to(st, token_at(tokens, st.next).end),
         Answer::UnrecognizedToken(st.next as u32, StateNo(top)),
     )
 }
 
 // "Kind 65535 is the tokenizer's own error: answer 6, last location unchanged."
+#[tactic(auto, unfolding(model::specs::Model::judged))]
 fn judge(g: &Given, st: St, top: u32) -> St
     requires { st.next < 2 ^ 32 }
     ensures { (C : Call) → Reads C g.now → result ≡ judged C st top }
 {
-    let kind = token_kind(g.tokens, st.next) as usize;
+    let kind = token_at(g.tokens, st.next).kind as usize;
     if kind == 65535 {
         return ended(st, Answer::TokenizerError(st.next as u32));
     }
     if kind < g.kinds {
-        return read_to(st, token_end(g.tokens, st.next));
+        return read_to(st, token_at(g.tokens, st.next).end);
     }
     unknown(g.tokens, st, top)
 }
 
 // `next_token` of the Rust: the token at `next` is read, if there is one.
+#[tactic(auto, using(crate::specs::Serving::has_token_law, crate::specs::Serving::no_token_law), unfolding(model::specs::Model::arrived))]
 pub fn arrive(g: &Given, st: St, top: u32) -> St
     requires { st.next < 2 ^ 32 }
     ensures { (C : Call) → Reads C g.now → result ≡ arrived C st top }
@@ -155,6 +158,7 @@ pub fn arrive(g: &Given, st: St, top: u32) -> St
 }
 
 // The answer of the error that was formed, and not of one met later.
+#[tactic(auto, unfolding(rules::specs::Driving::answer_of))]
 pub fn answer_of(f: Formed) -> Answer
     ensures { result ≡ answer_of f }
 {
@@ -176,6 +180,7 @@ pub fn fail(g: &Given, st: St, f: Formed) -> St
 }
 
 // "No state: drop the lookahead, read on, search the same stack. At end of input with no state, answer the original error."
+#[tactic(auto, using(crate::specs::Serving::has_token_law, crate::specs::Serving::no_token_law), unfolding(model::specs::Model::drop_token))]
 fn drop_token(g: &Given, stack: &[u8], st: St) -> St
     requires { Small g.now × Fine (length stack.now) g.now.depth g.now.count st }
     ensures { (C : Call) (scratch nodes children records : List ℕ) → Reads C g.now →
@@ -189,6 +194,7 @@ fn drop_token(g: &Given, stack: &[u8], st: St) -> St
 }
 
 // "If the error cell is not a shift, look further down."
+#[tactic(auto, unfolding(model::specs::Model::further))]
 pub fn further(g: &Given, stack: &[u8], st: St) -> St
     requires { Small g.now × Fine (length stack.now) g.now.depth g.now.count st }
     ensures { (C : Call) (scratch nodes children records : List ℕ) → Reads C g.now →
