@@ -2,12 +2,12 @@
 // Each function is the definition of the same name of the byte model. None writes to a room.
 #![tactic(auto)]
 
-ghost use Rattle.std.specs.Prelude.{List, ◌≡◌, ℕ, ◌+◌, ◌-◌, ◌<◌, ◌^◌, eqb, length};
+ghost use Rattle.std.specs.Prelude.{List, ◌≡◌, ℕ, ◌+◌, ◌-◌, ◌<◌, ◌^◌, eqb};
 ghost use Rattle.rules.specs.Tables.{flag};
 ghost use Rattle.rules.specs.Driving.{answer_of};
 ghost use Rattle.model.specs.Model.{Call, counted, ended, read_to, failing, searching, dropped, simulating, grown, judged, arrived, fail, drop_token, further};
 ghost use Rattle.moves.specs.Serving.{Reads, world, unknown_at};
-ghost use Rattle.moves.specs.Bounds.{Small, Fine};
+ghost use Rattle.moves.specs.Bounds.{Safe};
 
 use model::{Mode, St};
 use rooms::{token_at, top_at};
@@ -182,7 +182,7 @@ pub fn fail(g: &Given, st: St, f: Formed) -> St
 // "No state: drop the lookahead, read on, search the same stack. At end of input with no state, answer the original error."
 #[tactic(auto, using(crate::specs::Serving::has_token_law, crate::specs::Serving::no_token_law), unfolding(model::specs::Model::drop_token))]
 fn drop_token(g: &Given, stack: &[u8], st: St) -> St
-    requires { Small g.now × Fine (length stack.now) g.now.depth g.now.count st }
+    requires { Safe g.now stack.now st }
     ensures { (C : Call) (scratch nodes children records : List ℕ) → Reads C g.now →
         world stack.now scratch nodes children records result ≡
         drop_token C (world stack.now scratch nodes children records st) }
@@ -196,7 +196,7 @@ fn drop_token(g: &Given, stack: &[u8], st: St) -> St
 // "If the error cell is not a shift, look further down."
 #[tactic(auto, unfolding(model::specs::Model::further))]
 pub fn further(g: &Given, stack: &[u8], st: St) -> St
-    requires { Small g.now × Fine (length stack.now) g.now.depth g.now.count st }
+    requires { Safe g.now stack.now st }
     ensures { (C : Call) (scratch nodes children records : List ℕ) → Reads C g.now →
         world stack.now scratch nodes children records result ≡
         further C (world stack.now scratch nodes children records st) }
