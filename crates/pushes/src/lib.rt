@@ -7,11 +7,12 @@ ghost use Rattle.words.specs.Words.{pick};
 ghost use Rattle.rules.specs.Tables.{target, goto, left};
 ghost use Rattle.model.specs.Model.{Call, token_entry, shifted, shift, end_below, empty_spot, production_entry, reduced, reduce_over, reduce};
 ghost use Rattle.moves.specs.Serving.{Reads, Goes, world};
+ghost use Rattle.rooms.specs.Lent.{Same, world_of};
 ghost use Rattle.moves.specs.Bounds.{Small, Safe};
 
 use model::{Mode, St};
 use moves::{Given, arrive, ended, grown};
-use rooms::{copy_nodes, put_entry, put_node, symbol_at, token_at, top_at};
+use rooms::{Rooms, copy_nodes, put_entry, put_node, symbol_at, token_at, top_at};
 use rules::{Answer, Cell, Entry, ProdNo, StateNo, What};
 use tables::{cell_in, left, size};
 
@@ -34,16 +35,17 @@ fn token_entry(g: &Given, st: St, to: StateNo) -> Entry
 }
 
 #[tactic(auto, unfolding(model::specs::Model::shifted, model::specs::Model::push))]
-fn shifted(g: &Given, stack: &mut [u8], nodes: &mut [u8], st: St, to: StateNo) -> St
-    requires { Safe g.now stack.old st × (st.next < g.now.count) × (st.height + 2 ≤ g.now.depth) ×
-        (32 * st.nodes + 32 ≤ length nodes.old) }
-    ensures { (C : Call) (scratch children records : List ℕ) → Reads C g.now →
-        world stack.new scratch nodes.new children records result ≡
-        shifted C (world stack.old scratch nodes.old children records st) to }
+fn shifted(g: &Given, rooms: &mut Rooms, st: St, to: StateNo) -> St
+    requires { Safe g.now rooms.old.stack.now st × (st.next < g.now.count) × (st.height + 2 ≤ g.now.depth) ×
+        (32 * st.nodes + 32 ≤ length rooms.old.nodes.now) }
+    ensures { Same rooms.old rooms.new × (rooms.new.scratch.now ≡ rooms.old.scratch.now) × (rooms.new.children.now ≡ rooms.old.children.now) ×
+        (rooms.new.records.now ≡ rooms.old.records.now) ×
+        ((C : Call) → Reads C g.now → world_of rooms.new result ≡
+        shifted C (world_of rooms.old st) to) }
 {
     let e = token_entry(g, st, to);
-    put_entry(stack, st.height, e);
-    put_node(nodes, st.nodes, e, 0, 0);
+    put_entry(rooms.stack, st.height, e);
+    put_node(rooms.nodes, st.nodes, e, 0, 0);
     arrive(
         g,
         grown(st, st.height + 1, 0, 0, st.next + 1, Mode::Main),
@@ -53,19 +55,20 @@ fn shifted(g: &Given, stack: &mut [u8], nodes: &mut [u8], st: St, to: StateNo) -
 
 // "20 depth, .., 22 nodes, .. tested in that order: .. before what that look pushes."
 #[tactic(auto, using(moves::specs::Serving::depth_fits_law, moves::specs::Serving::too_deep), unfolding(model::specs::Model::shift))]
-pub fn shift(g: &Given, stack: &mut [u8], nodes: &mut [u8], st: St, to: StateNo) -> St
-    requires { Safe g.now stack.old st × (st.next < g.now.count) }
-    ensures { (C : Call) (scratch children records : List ℕ) → Reads C g.now →
-        world stack.new scratch nodes.new children records result ≡
-        shift C (world stack.old scratch nodes.old children records st) to }
+pub fn shift(g: &Given, rooms: &mut Rooms, st: St, to: StateNo) -> St
+    requires { Safe g.now rooms.old.stack.now st × (st.next < g.now.count) }
+    ensures { Same rooms.old rooms.new × (rooms.new.scratch.now ≡ rooms.old.scratch.now) × (rooms.new.children.now ≡ rooms.old.children.now) ×
+        (rooms.new.records.now ≡ rooms.old.records.now) ×
+        ((C : Call) → Reads C g.now → world_of rooms.new result ≡
+        shift C (world_of rooms.old st) to) }
 {
     if g.depth < st.height + 2 {
         return ended(st, Answer::OutOfDepth);
     }
-    if nodes.len() / 32 < st.nodes + 1 {
+    if rooms.nodes.len() / 32 < st.nodes + 1 {
         return ended(st, Answer::OutOfNodes);
     }
-    shifted(g, stack, nodes, st, to)
+    shifted(g, rooms, st, to)
 }
 
 // The state that a cell goes to.
@@ -150,27 +153,19 @@ fn child_of(k: usize, at: u32) -> u32
 }
 
 #[tactic(auto, unfolding(model::specs::Model::reduced, model::specs::Model::push))]
-fn reduced(
-    g: &Given,
-    stack: &mut [u8],
-    nodes: &mut [u8],
-    children: &mut [u8],
-    st: St,
-    p: ProdNo,
-    k: usize,
-    rest: usize,
-) -> St
-    requires { Safe g.now stack.old st × (rest + k ≡ st.height) × (rest + 2 ≤ g.now.depth) ×
-        (4 * (st.children + k) ≤ length children.old) × (32 * st.nodes + 32 ≤ length nodes.old) }
-    ensures { (C : Call) (scratch records : List ℕ) → Reads C g.now → Goes C g.now →
-        world stack.new scratch nodes.new children.new records result ≡
-        reduced C (world stack.old scratch nodes.old children.old records st) p.0 k rest }
+fn reduced(g: &Given, rooms: &mut Rooms, st: St, p: ProdNo, k: usize, rest: usize) -> St
+    requires { Safe g.now rooms.old.stack.now st × (rest + k ≡ st.height) × (rest + 2 ≤ g.now.depth) ×
+        (4 * (st.children + k) ≤ length rooms.old.children.now) × (32 * st.nodes + 32 ≤ length rooms.old.nodes.now) }
+    ensures { Same rooms.old rooms.new × (rooms.new.scratch.now ≡ rooms.old.scratch.now) × (rooms.new.records.now ≡ rooms.old.records.now) ×
+        ((C : Call) → Reads C g.now → Goes C g.now → world_of rooms.new result ≡
+        reduced C (world_of rooms.old st) p.0 k rest) }
 {
+    let stack = &mut *rooms.stack;
     let e = production_entry(g, stack, st, p, k, rest);
-    copy_nodes(children, st.children, stack, rest, k);
+    copy_nodes(rooms.children, st.children, stack, rest, k);
     put_entry(stack, rest, e);
     put_node(
-        nodes,
+        rooms.nodes,
         st.nodes,
         e,
         child_of(k, st.children as u32),
@@ -181,48 +176,32 @@ fn reduced(
 
 // "Reduction: 20 (after its pops), 21, 22."
 #[tactic(auto, using(moves::specs::Serving::depth_fits_law, moves::specs::Serving::too_deep), unfolding(model::specs::Model::reduce_over))]
-fn reduce_over(
-    g: &Given,
-    stack: &mut [u8],
-    nodes: &mut [u8],
-    children: &mut [u8],
-    st: St,
-    p: ProdNo,
-    k: usize,
-    rest: usize,
-) -> St
-    requires { Safe g.now stack.old st × (rest + k ≡ st.height) }
-    ensures { (C : Call) (scratch records : List ℕ) → Reads C g.now → Goes C g.now →
-        world stack.new scratch nodes.new children.new records result ≡
-        reduce_over C (world stack.old scratch nodes.old children.old records st) p.0 k rest }
+fn reduce_over(g: &Given, rooms: &mut Rooms, st: St, p: ProdNo, k: usize, rest: usize) -> St
+    requires { Safe g.now rooms.old.stack.now st × (rest + k ≡ st.height) }
+    ensures { Same rooms.old rooms.new × (rooms.new.scratch.now ≡ rooms.old.scratch.now) × (rooms.new.records.now ≡ rooms.old.records.now) ×
+        ((C : Call) → Reads C g.now → Goes C g.now → world_of rooms.new result ≡
+        reduce_over C (world_of rooms.old st) p.0 k rest) }
 {
     if g.depth < rest + 2 {
         return ended(st, Answer::OutOfDepth);
     }
-    if children.len() / 4 < st.children + k {
+    if rooms.children.len() / 4 < st.children + k {
         return ended(st, Answer::OutOfChildren);
     }
-    if nodes.len() / 32 < st.nodes + 1 {
+    if rooms.nodes.len() / 32 < st.nodes + 1 {
         return ended(st, Answer::OutOfNodes);
     }
-    reduced(g, stack, nodes, children, st, p, k, rest)
+    reduced(g, rooms, st, p, k, rest)
 }
 
 // Popping more than there is stops at the bottom: for tables that pass the check there is always enough.
 #[tactic(auto, using(moves::specs::Serving::size_is), unfolding(model::specs::Model::reduce))]
-pub fn reduce(
-    g: &Given,
-    stack: &mut [u8],
-    nodes: &mut [u8],
-    children: &mut [u8],
-    st: St,
-    p: ProdNo,
-) -> St
-    requires { Safe g.now stack.old st }
-    ensures { (C : Call) (scratch records : List ℕ) → Reads C g.now → Goes C g.now →
-        world stack.new scratch nodes.new children.new records result ≡
-        reduce C (world stack.old scratch nodes.old children.old records st) p.0 }
+pub fn reduce(g: &Given, rooms: &mut Rooms, st: St, p: ProdNo) -> St
+    requires { Safe g.now rooms.old.stack.now st }
+    ensures { Same rooms.old rooms.new × (rooms.new.scratch.now ≡ rooms.old.scratch.now) × (rooms.new.records.now ≡ rooms.old.records.now) ×
+        ((C : Call) → Reads C g.now → Goes C g.now → world_of rooms.new result ≡
+        reduce C (world_of rooms.old st) p.0) }
 {
     let k = size(g.productions, p.0 as usize).min(st.height);
-    reduce_over(g, stack, nodes, children, st, p, k, st.height - k)
+    reduce_over(g, rooms, st, p, k, st.height - k)
 }

@@ -11,6 +11,16 @@ ghost use Rattle.model.specs.Bytes.{put_entry, put_node, state_at, node_at, star
 use rules::{Entry, Token, What};
 use words::{get32, put32, word32};
 
+// The rooms that a caller lends for a run.
+#[derive(Drop)]
+pub struct Rooms<'a> {
+    pub stack: &'a mut [u8],
+    pub scratch: &'a mut [u8],
+    pub nodes: &'a mut [u8],
+    pub children: &'a mut [u8],
+    pub records: &'a mut [u8],
+}
+
 // Words, one behind the other.
 pub fn put_words<const N: usize>(s: &mut [u8], at: usize, words: [u32; N])
     requires { at + 4 * N ≤ length s.old }
