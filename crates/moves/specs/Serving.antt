@@ -3,7 +3,7 @@
 use Rattle.std.specs.Prelude.{Option, None, Some, true, false, List, ◌≡◌, ℕ, ◌+◌, ◌*◌, ◌<◌, ◌≤◌, eqb, ltb, leb}
 use Rattle.std.proofs.Common.{lt-ltb, le-ltb, le-leb}
 use Rattle.std.proofs.lemmas.Bool.{lt-leb}
-use Rattle.words.specs.Words.{word16, word32}
+use Rattle.words.specs.Words.{word16}
 use Rattle.rules.specs.declared.Token.{Token}
 use Rattle.rules.specs.Tables.{states, kinds, nonterminals, flag, action, goto, left, size}
 use Rattle.tables.specs.Readers.{cell_in}

@@ -3,7 +3,7 @@
 // an `impl St` stands in crate `model` only, which has no functions, and the must-fail edits of this crate hold them here.
 #![tactic(auto)]
 
-ghost use Rattle.std.specs.Prelude.{Some, List, ◌≡◌, ℕ, ◌+◌, ◌-◌, ◌<◌, ◌^◌, eqb};
+ghost use Rattle.std.specs.Prelude.{Some, List, ◌≡◌, ℕ, ◌+◌, ◌<◌, ◌^◌, eqb};
 ghost use Rattle.rules.specs.Tables.{flag};
 ghost use Rattle.rules.specs.Driving.{answer_of};
 ghost use Rattle.model.specs.Model.{Call, counted, ended, read_to, failing, searching, dropped, simulating, grown, judged, arrived, fail, drop_token, further};

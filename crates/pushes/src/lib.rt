@@ -2,8 +2,7 @@
 // Each function is the definition of the same name of the byte model. A step that a limit stops writes nothing.
 #![tactic(auto)]
 
-ghost use Rattle.std.specs.Prelude.{List, ◌≡◌, ℕ, ◌+◌, ◌*◌, ◌-◌, ◌≤◌, ◌<◌, ◌^◌, min, eqb, length};
-ghost use Rattle.words.specs.Words.{pick};
+ghost use Rattle.std.specs.Prelude.{List, ◌≡◌, ℕ, ◌+◌, ◌*◌, ◌≤◌, ◌<◌, ◌^◌, length};
 ghost use Rattle.rules.specs.Tables.{target, goto, left};
 ghost use Rattle.model.specs.Model.{Call, token_entry, shifted, shift, end_below, empty_spot, production_entry, reduced, reduce_over, reduce};
 ghost use Rattle.moves.specs.Serving.{Reads, Goes, world};
