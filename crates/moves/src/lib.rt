@@ -1,20 +1,27 @@
 // What a look does to the numbers of a run: it is counted, it ends the run, it goes on in another mode, it reads a token.
-// Each function is the definition of the same name of the byte model. None writes to a room.
+// Each function is the definition of the same name of the byte model. None writes to a room. The functions of a state are no methods:
+// an `impl St` stands in crate `model` only, which has no functions, and the must-fail edits of this crate hold them here.
 #![tactic(auto)]
 
-ghost use Rattle.std.specs.Prelude.{List, ◌≡◌, ℕ, ◌+◌, ◌-◌, ◌<◌, ◌^◌, length};
+ghost use Rattle.std.specs.Prelude.{Some, List, ◌≡◌, ℕ, ◌+◌, ◌<◌, ◌^◌, eqb};
+ghost use Rattle.rules.specs.Tables.{flag};
 ghost use Rattle.rules.specs.Driving.{answer_of};
 ghost use Rattle.model.specs.Model.{Call, counted, ended, read_to, failing, searching, dropped, simulating, grown, judged, arrived, fail, drop_token, further};
-ghost use Rattle.moves.specs.Serving.{Reads, world, unknown_at};
-ghost use Rattle.moves.specs.Bounds.{Small, Fine};
+ghost use Rattle.moves.specs.Serving.{Reads, Ahead, world};
+ghost use Rattle.moves.specs.Bounds.{Safe};
 
 use model::{Mode, St};
-use rooms::{token_end, token_kind, top_at};
-use rules::{Answer, Formed, StateNo};
+use rooms::{token_at, top_at};
+use rules::{Answer, Formed, StateNo, Token};
 
-// A call's numbers: the tables' sizes, whether the flag is 1, the number of tokens, the start location and the depth that fits.
+// A call, but for its rooms: the tables' slices and sizes, whether the flag is 1, the tokens and how many they are, the start
+// location and the depth that fits.
 #[derive(Clone, Copy)]
-pub struct Given {
+pub struct Given<'a> {
+    pub actions: &'a [u8],
+    pub gotos: &'a [u8],
+    pub productions: &'a [u8],
+    pub tokens: &'a [u8],
     pub states: usize,
     pub kinds: usize,
     pub nonterminals: usize,
@@ -29,29 +36,19 @@ pub fn counted(st: St) -> St
     requires { st.units < 2 ^ 32 }
     ensures { result ≡ counted st }
 {
-    let mut r = st;
-    r.units = st.units + 1;
-    r
+    St {
+        units: st.units + 1,
+        ..st
+    }
 }
 
 pub fn ended(st: St, answer: Answer) -> St
     ensures { result ≡ ended st answer }
 {
-    let formed = st.formed;
     St {
-        height: st.height,
-        nodes: st.nodes,
-        children: st.children,
-        records: st.records,
-        units: st.units,
-        next: st.next,
-        last: st.last,
         mode: Mode::Ended,
-        formed,
-        popped: st.popped,
-        base: st.base,
-        pushed: st.pushed,
         answer,
+        ..st
     }
 }
 
@@ -59,51 +56,27 @@ pub fn ended(st: St, answer: Answer) -> St
 pub fn read_to(st: St, last: u32) -> St
     ensures { result ≡ read_to st last }
 {
-    let mut r = st;
-    r.last = last;
-    r
+    St { last, ..st }
 }
 
+#[tactic(auto, unfolding(model::specs::Model::fail))]
 pub fn failing(st: St, formed: Formed) -> St
     ensures { result ≡ failing st formed }
 {
-    let answer = st.answer;
     St {
-        height: st.height,
-        nodes: st.nodes,
-        children: st.children,
-        records: st.records,
-        units: st.units,
-        next: st.next,
-        last: st.last,
         mode: Mode::Column,
         formed,
-        popped: st.popped,
-        base: st.base,
-        pushed: st.pushed,
-        answer,
+        ..st
     }
 }
 
 pub fn searching(st: St, popped: usize) -> St
     ensures { result ≡ searching st popped }
 {
-    let formed = st.formed;
-    let answer = st.answer;
     St {
-        height: st.height,
-        nodes: st.nodes,
-        children: st.children,
-        records: st.records,
-        units: st.units,
-        next: st.next,
-        last: st.last,
         mode: Mode::Search,
-        formed,
         popped,
-        base: st.base,
-        pushed: st.pushed,
-        answer,
+        ..st
     }
 }
 
@@ -111,44 +84,22 @@ pub fn dropped(st: St) -> St
     requires { st.next < 2 ^ 32 }
     ensures { result ≡ dropped st }
 {
-    let formed = st.formed;
-    let answer = st.answer;
     St {
-        height: st.height,
-        nodes: st.nodes,
-        children: st.children,
-        records: st.records,
-        units: st.units,
         next: st.next + 1,
-        last: st.last,
         mode: Mode::Search,
-        formed,
         popped: 0,
-        base: st.base,
-        pushed: st.pushed,
-        answer,
+        ..st
     }
 }
 
 pub fn simulating(st: St, base: usize, pushed: usize) -> St
     ensures { result ≡ simulating st base pushed }
 {
-    let formed = st.formed;
-    let answer = st.answer;
     St {
-        height: st.height,
-        nodes: st.nodes,
-        children: st.children,
-        records: st.records,
-        units: st.units,
-        next: st.next,
-        last: st.last,
         mode: Mode::Simulate,
-        formed,
-        popped: st.popped,
         base,
         pushed,
-        answer,
+        ..st
     }
 }
 
@@ -157,119 +108,108 @@ pub fn grown(st: St, height: usize, kids: usize, marks: usize, next: usize, mode
     requires { (st.nodes < 2 ^ 32) × (st.children + kids < 2 ^ 33) × (st.records < 2 ^ 32) × (marks < 2 ^ 32) }
     ensures { result ≡ grown st height kids marks next mode }
 {
-    let formed = st.formed;
-    let answer = st.answer;
     St {
         height,
         nodes: st.nodes + 1,
         children: st.children + kids,
         records: st.records + marks,
-        units: st.units,
         next,
-        last: st.last,
         mode,
-        formed,
-        popped: st.popped,
-        base: st.base,
-        pushed: st.pushed,
-        answer,
+        ..st
     }
 }
 
-// "A kind not below t ends at once with answer 3, with no recovery, even while dropping."
-fn unknown(tokens: &[u8], st: St, top: u32) -> St
+// The token at `next`, if there is one.
+#[tactic(auto, using(crate::specs::Serving::has_token_law, crate::specs::Serving::no_token_law))]
+pub fn lookahead(g: &Given, st: St) -> Option<Token>
     requires { st.next < 2 ^ 32 }
-    ensures { result ≡ unknown_at tokens.now st top }
+    ensures { (C : Call) → Reads C g.now → Ahead C st result }
 {
-    let next = st.next;
+    if st.next < g.count {
+        return Some(token_at(g.tokens, st.next));
+    }
+    None
+}
+
+// "Kind 65535 is the tokenizer's own error: answer 6, last location unchanged." "A kind not below t ends at once with answer 3, with
+// no recovery, even while dropping."
+#[tactic(auto, unfolding(model::specs::Model::judged))]
+fn judge(g: &Given, st: St, token: Token, top: u32) -> St
+    requires { st.next < 2 ^ 32 }
+    ensures { (C : Call) → Reads C g.now → Ahead C st (Some token) → result ≡ judged C st top }
+{
+    if token.kind == 65535 {
+        return ended(st, Answer::TokenizerError(st.next as u32));
+    }
+    let read = read_to(st, token.end);
+    if (token.kind as usize) < g.kinds {
+        return read;
+    }
     ended(
-        read_to(st, token_end(tokens, next)),
-        Answer::UnrecognizedToken(next as u32, StateNo(top)),
+        read,
+        Answer::UnrecognizedToken(st.next as u32, StateNo(top)),
     )
 }
 
-// "Kind 65535 is the tokenizer's own error: answer 6, last location unchanged."
-fn judge(tokens: &[u8], g: Given, st: St, top: u32) -> St
-    requires { st.next < 2 ^ 32 }
-    ensures { (C : Call) → Reads C tokens.now g → result ≡ judged C st top }
-{
-    let next = st.next;
-    let kinds = g.kinds;
-    let kind = token_kind(tokens, next) as usize;
-    if kind == 65535 {
-        return ended(st, Answer::TokenizerError(next as u32));
-    }
-    if kind < kinds {
-        return read_to(st, token_end(tokens, next));
-    }
-    unknown(tokens, st, top)
-}
-
 // `next_token` of the Rust: the token at `next` is read, if there is one.
-pub fn arrive(tokens: &[u8], g: Given, st: St, top: u32) -> St
+#[tactic(auto, unfolding(model::specs::Model::arrived))]
+pub fn arrive(g: &Given, st: St, top: u32) -> St
     requires { st.next < 2 ^ 32 }
-    ensures { (C : Call) → Reads C tokens.now g → result ≡ arrived C st top }
+    ensures { (C : Call) → Reads C g.now → result ≡ arrived C st top }
 {
-    let next = st.next;
-    let count = g.count;
-    if next < count {
-        return judge(tokens, g, st, top);
+    match lookahead(g, st) {
+        Some(token) => judge(g, st, token, top),
+        None => st,
     }
-    st
 }
 
-// The answer of the error that was formed, and not of one met later.
+// The answer of the error that was formed, and not of one met later. `number` is 3 or 4, no enum: definition `answer_of` of `rules` and
+// the record's first word in the byte model have it so.
+#[tactic(auto, unfolding(rules::specs::Driving::answer_of))]
 pub fn answer_of(f: Formed) -> Answer
     ensures { result ≡ answer_of f }
 {
-    let number = f.number;
-    let top = f.top;
-    if number == 3 {
-        return Answer::UnrecognizedToken(f.at, top);
+    match f.number {
+        3 => Answer::UnrecognizedToken(f.at, f.top),
+        _ => Answer::UnrecognizedEnd(f.at, f.top),
     }
-    Answer::UnrecognizedEnd(f.at, top)
 }
 
 // "Flag 0: an error cell gives 3, or 4 at the end, at once. Recovery, flag 1: form the error".
-pub fn fail(g: Given, st: St, f: Formed) -> St
-    ensures { (C : Call) (tokens stack scratch nodes children records : List ℕ) → Reads C tokens g →
+pub fn fail(g: &Given, st: St, f: Formed) -> St
+    ensures { (C : Call) (stack scratch nodes children records : List ℕ) → eqb (flag C.tables) 1 ≡ g.now.recovers →
         world stack scratch nodes children records result ≡ fail C (world stack scratch nodes children records st) f }
 {
-    let recovers = g.recovers;
-    if recovers {
+    if g.recovers {
         return failing(st, f);
     }
     ended(st, answer_of(f))
 }
 
 // "No state: drop the lookahead, read on, search the same stack. At end of input with no state, answer the original error."
-fn drop_token(tokens: &[u8], g: Given, stack: &[u8], st: St) -> St
-    requires { Small g × Fine (length stack.now) g.depth g.count st }
-    ensures { (C : Call) (scratch nodes children records : List ℕ) → Reads C tokens.now g →
+#[tactic(auto, using(crate::specs::Serving::has_token_law, crate::specs::Serving::no_token_law), unfolding(model::specs::Model::drop_token))]
+fn drop_token(g: &Given, stack: &[u8], st: St) -> St
+    requires { Safe g.now stack.now st }
+    ensures { (C : Call) (scratch nodes children records : List ℕ) → Reads C g.now →
         world stack.now scratch nodes children records result ≡
         drop_token C (world stack.now scratch nodes children records st) }
 {
-    let next = st.next;
-    let count = g.count;
-    let height = st.height;
-    let formed = st.formed;
-    if next < count {
-        return arrive(tokens, g, dropped(st), top_at(stack, height));
+    if st.next < g.count {
+        return arrive(g, dropped(st), top_at(stack, st.height));
     }
-    ended(st, answer_of(formed))
+    ended(st, answer_of(st.formed))
 }
 
 // "If the error cell is not a shift, look further down."
-pub fn further(tokens: &[u8], g: Given, stack: &[u8], st: St) -> St
-    requires { Small g × Fine (length stack.now) g.depth g.count st }
-    ensures { (C : Call) (scratch nodes children records : List ℕ) → Reads C tokens.now g →
+#[tactic(auto, unfolding(model::specs::Model::further))]
+pub fn further(g: &Given, stack: &[u8], st: St) -> St
+    requires { Safe g.now stack.now st }
+    ensures { (C : Call) (scratch nodes children records : List ℕ) → Reads C g.now →
         world stack.now scratch nodes children records result ≡
         further C (world stack.now scratch nodes children records st) }
 {
-    let popped = st.popped;
-    let height = st.height;
-    if popped < height {
-        return searching(st, popped + 1);
+    if st.popped < st.height {
+        return searching(st, st.popped + 1);
     }
-    drop_token(tokens, g, stack, st)
+    drop_token(g, stack, st)
 }
