@@ -94,12 +94,12 @@ module _ (g : Given) (actions gotos productions tokens : List ℕ) where
 
 -- ---- a run is its steps
 
-pub run_turn : (C : Call) (n : ℕ) (w w' v : World) → 0 < n → is_ended w.st.mode ≡ false → w' ≡ step C w → run_from C n w ≡
-    v → run_from C (n - 1) w' ≡ v
+pub run_turn : (C : Call) (n m : ℕ) (w w' v : World) → n ≡ m + 1 → is_ended w.st.mode ≡ false → w' ≡ step C w →
+    run_from C n w ≡ v → run_from C m w' ≡ v
 unfolding run_from
-run_turn C zero w w' v h e s q = absurd (omega arith)
-run_turn C (suc n) w w' v h e s q =
-    let m : suc n - 1 ≡ n = omega arith in rw (m, s) (rw (e, run_from) at q)
+run_turn C zero m w w' v h e s q = absurd (omega arith)
+run_turn C (suc n) m w w' v h e s q =
+    let k : m ≡ n = omega arith in rw (k, s) (rw (e, run_from) at q)
 
 pub run_ended : (C : Call) (n : ℕ) (w : World) → is_ended w.st.mode ≡ true → run_from C n w ≡ w
 unfolding run_from
@@ -127,14 +127,14 @@ pub record Going (g : Given) (actions gotos productions tokens stack₀ scratch�
 
 module _ (g : Given) (actions gotos productions tokens stack₀ scratch₀ nodes₀ children₀ records₀ : List ℕ) (s₀ : St)
     (budget : ℕ) (stack scratch nodes children records : List ℕ) (s : St) (left : ℕ)
-    (stack' scratch' nodes' children' records' : List ℕ) (r : St) where
+    (stack' scratch' nodes' children' records' : List ℕ) (r : St) (left' : ℕ) where
   pub going_on : Going g actions gotos productions tokens stack₀ scratch₀ nodes₀ children₀ records₀ s₀ budget stack scratch
-      nodes children records s left → 0 < left → is_ended s.mode ≡ false → length stack' ≡ length stack → length scratch' ≡
+      nodes children records s left → left ≡ left' + 1 → is_ended s.mode ≡ false → length stack' ≡ length stack → length scratch' ≡
       length scratch → length nodes' ≡ length nodes → length children' ≡ length children → length records' ≡ length records →
       ((C : Call) → Reads C tokens g → Goes C gotos productions g → Acts C actions g →
       world stack' scratch' nodes' children' records' r ≡ step C (world stack scratch nodes children records s)) →
       Going g actions gotos productions tokens stack₀ scratch₀ nodes₀ children₀ records₀ s₀ budget stack' scratch' nodes'
-      children' records' r (left - 1)
+      children' records' r left'
   going_on k h e l₁ l₂ l₃ l₄ l₅ q =
       let o : Onward (length stack)
       (length scratch) g (s.units + 1) r = step_onward g actions gotos productions tokens stack scratch nodes children
@@ -149,7 +149,7 @@ module _ (g : Given) (actions gotos productions tokens stack₀ scratch₀ nodes
         simulable = rw (l₁, l₂) o.simulable;
         budget_left = let u : r.units ≡ s.units + 1 = o.units_are in let b : s.units + left < 2 ^ 32 = k.budget_left in
             omega arith;
-        rest = λ C m n a. run_turn C left (world stack scratch nodes children records s)
+        rest = λ C m n a. run_turn C left left' (world stack scratch nodes children records s)
             (world stack' scratch' nodes' children' records' r)
             (run_from C budget (world stack₀ scratch₀ nodes₀ children₀ records₀ s₀)) h e (q C m n a) (k.rest C m n a);
       }

@@ -20,12 +20,6 @@ use rules::{Answer, Formed, StateNo};
 fn first_st(origin: u32) -> St
     ensures { (result.next ≡ 0) × ((C : Call) → C.origin ≡ origin → result ≡ first_st C) }
 {
-    let formed = Formed {
-        number: 0,
-        at: 0,
-        from: 0,
-        top: StateNo(0),
-    };
     St {
         height: 0,
         nodes: 0,
@@ -35,7 +29,7 @@ fn first_st(origin: u32) -> St
         next: 0,
         last: origin,
         mode: Mode::Main,
-        formed,
+        formed: Formed { number: 0, at: 0, from: 0, top: StateNo(0) },
         popped: 0,
         base: 0,
         pushed: 0,
@@ -47,8 +41,7 @@ fn read_first(tokens: &[u8], g: Given, st: St) -> St
     requires { st.next < 2 ^ 32 }
     ensures { (C : Call) → Reads C tokens.now g → st ≡ first_st C → result ≡ begin C }
 {
-    let depth = g.depth;
-    if depth < 1 {
+    if g.depth < 1 {
         return ended(st, Answer::OutOfDepth);
     }
     arrive(tokens, g, st, 0)
@@ -58,8 +51,7 @@ fn read_first(tokens: &[u8], g: Given, st: St) -> St
 pub fn begin(tokens: &[u8], g: Given) -> St
     ensures { (C : Call) → Reads C tokens.now g → result ≡ begin C }
 {
-    let origin = g.origin;
-    read_first(tokens, g, first_st(origin))
+    read_first(tokens, g, first_st(g.origin))
 }
 
 // "3 unrecognized token: token, expected. 4 unrecognized end: last location, expected."
@@ -68,23 +60,20 @@ fn formed_at(g: Given, stack: &[u8], st: St) -> Formed
     ensures { (C : Call) (tokens scratch nodes children records : List ℕ) → Reads C tokens g → result ≡
         formed_at (world stack.now scratch nodes children records st) (has_token C st) }
 {
-    let next = st.next;
-    let last = st.last;
-    let count = g.count;
-    let height = st.height;
-    let top = StateNo(top_at(stack, height));
-    if next < count {
+    let from = st.next as u32;
+    let top = StateNo(top_at(stack, st.height));
+    if st.next < g.count {
         return Formed {
             number: 3,
-            at: next as u32,
-            from: next as u32,
+            at: from,
+            from,
             top,
         };
     }
     Formed {
         number: 4,
-        at: last,
-        from: next as u32,
+        at: st.last,
+        from,
         top,
     }
 }
@@ -155,7 +144,6 @@ pub fn step(
         children.new records.new result ≡ step C (world stack.old scratch.old
         nodes.old children.old records.old st) }
 {
-    let mode = st.mode;
     let s = counted(st);
     let act = decide(
         actions,
@@ -166,7 +154,7 @@ pub fn step(
         stack,
         scratch,
         s,
-        mode,
+        st.mode,
     );
     perform(
         actions,
@@ -187,13 +175,7 @@ pub fn step(
 fn is_ended(mode: Mode) -> bool
     ensures { result ≡ is_ended mode }
 {
-    match mode {
-        Mode::Main => false,
-        Mode::Column => false,
-        Mode::Search => false,
-        Mode::Simulate => false,
-        Mode::Ended => true,
-    }
+    matches!(mode, Mode::Ended)
 }
 
 // "19 is given exactly if another is needed": that is the answer that a run has while it has not ended.
@@ -219,10 +201,8 @@ pub fn run(
         nodes.old children.old records.old st) }
 {
     let mut s = st;
-    let mut left = budget;
-    while 0 < left {
-        let mode = s.mode;
-        if is_ended(mode) {
+    for _ in 0..budget {
+        if is_ended(s.mode) {
             return s;
         }
         s = step(
@@ -238,7 +218,6 @@ pub fn run(
             records,
             s,
         );
-        left -= 1;
     }
     s
 }
@@ -284,10 +263,5 @@ pub fn drive(
 pub fn depth_of(stack: usize, scratch: usize) -> usize
     ensures { (result ≡ min (stack / 32) (scratch / 4)) × (32 * result ≤ stack) × (4 * result ≤ scratch) }
 {
-    let a = stack / 32;
-    let b = scratch / 4;
-    if a <= b {
-        return a;
-    }
-    b
+    (stack / 32).min(scratch / 4)
 }

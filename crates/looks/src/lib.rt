@@ -41,10 +41,8 @@ fn look_column(tokens: &[u8], g: Given, st: St) -> usize
     requires { Small g × (st.next < 2 ^ 32) }
     ensures { (C : Call) → Reads C tokens.now g → result ≡ look_column C st }
 {
-    let next = st.next;
-    let count = g.count;
-    if next < count {
-        return token_kind(tokens, next) as usize;
+    if st.next < g.count {
+        return token_kind(tokens, st.next) as usize;
     }
     g.kinds + 1
 }
@@ -55,10 +53,7 @@ fn cell_under(actions: &[u8], tokens: &[u8], g: Given, st: St, top: u32) -> Cell
     ensures { (C : Call) → Reads C tokens.now g → Acts C actions.now g → result ≡
         action C.tables top (look_column C st) }
 {
-    let states = g.states;
-    let kinds = g.kinds;
-    let column = look_column(tokens, g, st);
-    cell_in(actions, states, kinds + 2, top as usize, column)
+    cell_in(actions, g.states, g.kinds + 2, top as usize, look_column(tokens, g, st))
 }
 
 // The node of the only symbol over which production 0 is reduced.
@@ -78,9 +73,7 @@ fn main_shift(g: Given, st: St, to: StateNo) -> Act
         main_look C (world stack scratch nodes children records st) (has_token C st) (Shift to) ≡
         on_act C (world stack scratch nodes children records st) result) }
 {
-    let next = st.next;
-    let count = g.count;
-    if next < count {
+    if st.next < g.count {
         return Act::ShiftTo(to);
     }
     Act::FailNow
@@ -93,13 +86,10 @@ fn main_accept(g: Given, stack: &[u8], st: St) -> Act
         main_reduce C (world stack.now scratch nodes children records st) (has_token C st) 0 ≡
         on_act C (world stack.now scratch nodes children records st) result) }
 {
-    let next = st.next;
-    let count = g.count;
-    let height = st.height;
-    if next < count {
-        return Act::EndWith(Answer::ExtraToken(next as u32));
+    if st.next < g.count {
+        return Act::EndWith(Answer::ExtraToken(st.next as u32));
     }
-    Act::EndWith(Answer::Accepted(root_at(stack, height)))
+    Act::EndWith(Answer::Accepted(root_at(stack, st.height)))
 }
 
 // "reducing it accepts, and builds no node"
@@ -109,8 +99,7 @@ fn main_reduce(g: Given, stack: &[u8], st: St, p: ProdNo) -> Act
         main_reduce C (world stack.now scratch nodes children records st) (has_token C st) p.0 ≡
         on_act C (world stack.now scratch nodes children records st) result) }
 {
-    let number = p.0;
-    if number == 0 {
+    if p.0 == 0 {
         return main_accept(g, stack, st);
     }
     Act::ReduceBy(p)
@@ -123,9 +112,7 @@ pub fn main_look(actions: &[u8], tokens: &[u8], g: Given, stack: &[u8], st: St) 
         Acts C actions.now g → look C (world stack.now scratch nodes children records st) Main ≡
         on_act C (world stack.now scratch nodes children records st) result) }
 {
-    let height = st.height;
-    let cell = cell_under(actions, tokens, g, st, top_at(stack, height));
-    match cell {
+    match cell_under(actions, tokens, g, st, top_at(stack, st.height)) {
         Cell::Shift(to) => main_shift(g, st, to),
         Cell::Reduce(p) => main_reduce(g, stack, st, p),
         Cell::Error => Act::FailNow,
@@ -139,12 +126,8 @@ fn column_reduce(stack: &[u8], st: St, p: ProdNo) -> Act
         column_reduce C (world stack.now scratch nodes children records st) p.0 ≡
         on_act C (world stack.now scratch nodes children records st) result) }
 {
-    let number = p.0;
-    let height = st.height;
-    let formed = st.formed;
-    let from = formed.from;
-    if number == 0 {
-        return Act::EndWith(Answer::AcceptedEarly(root_at(stack, height), from));
+    if p.0 == 0 {
+        return Act::EndWith(Answer::AcceptedEarly(root_at(stack, st.height), st.formed.from));
     }
     Act::ReduceBy(p)
 }
@@ -156,12 +139,9 @@ pub fn column_look(actions: &[u8], g: Given, stack: &[u8], st: St) -> Act
         look C (world stack.now scratch nodes children records st) Column ≡
         on_act C (world stack.now scratch nodes children records st) result) }
 {
-    let height = st.height;
-    let cell = error_cell(actions, g, stack, height);
-    match cell {
-        Cell::Shift(_) => Act::SearchTop,
+    match error_cell(actions, g, stack, st.height) {
         Cell::Reduce(p) => column_reduce(stack, st, p),
-        Cell::Error => Act::SearchTop,
+        Cell::Shift(_) | Cell::Error => Act::SearchTop,
     }
 }
 
@@ -174,21 +154,10 @@ pub fn search_look(actions: &[u8], g: Given, stack: &[u8], st: St) -> Act
         on_act C (world stack.now scratch nodes children records st) result) }
 {
     let rest = st.height - st.popped;
-    let cell = error_cell(actions, g, stack, rest);
-    let Cell::Shift(s) = cell else {
+    let Cell::Shift(s) = error_cell(actions, g, stack, rest) else {
         return Act::LookFurther;
     };
     Act::SimulateFrom(rest, 0, s.0)
-}
-
-// What is left of a number less another.
-fn less(a: usize, b: usize) -> usize
-    ensures { (result ≡ a - b) × (result ≤ a) }
-{
-    if a <= b {
-        return 0;
-    }
-    a - b
 }
 
 // A simulated reduction pops the pushed states first, and then what they stand on.
@@ -207,11 +176,9 @@ fn simulate_pop(
         scratch.now nodes children records st) p.0 ≡ on_act C (world stack.now
         scratch.now nodes children records st) result) }
 {
-    let from = st.base;
-    let above = st.pushed;
     let n = size(productions, p.0 as usize);
-    let base = less(from, less(n, above));
-    let pushed = less(above, n);
+    let base = st.base.saturating_sub(n.saturating_sub(st.pushed));
+    let pushed = st.pushed.saturating_sub(n);
     let top = sim_top(stack, scratch, base, pushed);
     Act::SimulateFrom(base, pushed, goto_state(gotos, productions, g, top, p))
 }
@@ -233,8 +200,7 @@ fn simulate_reduce(
         scratch.now nodes children records st) p.0 ≡ on_act C (world stack.now
         scratch.now nodes children records st) result) }
 {
-    let number = p.0;
-    if number == 0 {
+    if p.0 == 0 {
         return Act::Recover;
     }
     simulate_pop(gotos, productions, g, stack, scratch, st, p)
@@ -258,16 +224,8 @@ pub fn simulate_look(
         look C (world stack.now scratch.now nodes children records st) Simulate ≡
         on_act C (world stack.now scratch.now nodes children records st) result) }
 {
-    let base = st.base;
-    let pushed = st.pushed;
-    let cell = cell_under(
-        actions,
-        tokens,
-        g,
-        st,
-        sim_top(stack, scratch, base, pushed),
-    );
-    match cell {
+    let top = sim_top(stack, scratch, st.base, st.pushed);
+    match cell_under(actions, tokens, g, st, top) {
         Cell::Shift(_) => Act::Recover,
         Cell::Reduce(p) => simulate_reduce(gotos, productions, g, stack, scratch, st, p),
         Cell::Error => Act::LookFurther,

@@ -35,8 +35,7 @@ pub fn simulate_on(g: Given, scratch: &mut [u8], st: St, base: usize, pushed: us
         world stack scratch.new nodes children records result ≡
         simulate_on C (world stack scratch.old nodes children records st) base pushed s }
 {
-    let depth = g.depth;
-    if depth < base + pushed + 2 {
+    if g.depth < base + pushed + 2 {
         return ended(st, Answer::OutOfDepth);
     }
     push_state(scratch, st, base, pushed, s)
@@ -48,14 +47,11 @@ fn start_unpopped(tokens: &[u8], g: Given, stack: &[u8], st: St, rest: usize) ->
     ensures { (C : Call) (scratch nodes children records : List ℕ) → Reads C tokens.now g → result ≡
         mark_start C (world stack.now scratch nodes children records st) rest }
 {
-    let formed = st.formed;
-    let from = formed.from as usize;
-    let next = st.next;
-    let origin = g.origin;
-    if from < next {
+    let from = st.formed.from as usize;
+    if from < st.next {
         return token_start(tokens, from);
     }
-    end_below(origin, stack, rest)
+    end_below(g.origin, stack, rest)
 }
 
 // "Mark start: the first popped symbol's start"
@@ -64,8 +60,7 @@ fn mark_start(tokens: &[u8], g: Given, stack: &[u8], st: St, rest: usize) -> u32
     ensures { (C : Call) (scratch nodes children records : List ℕ) → Reads C tokens.now g → result ≡
         mark_start C (world stack.now scratch nodes children records st) rest }
 {
-    let popped = st.popped;
-    if popped == 0 {
+    if st.popped == 0 {
         return start_unpopped(tokens, g, stack, st, rest);
     }
     start_at(stack, rest)
@@ -77,10 +72,8 @@ fn end_unpopped(tokens: &[u8], g: Given, st: St, start: u32) -> u32
     ensures { (C : Call) → Reads C tokens.now g → result ≡ pick (has_token C st)
         (token_start C st.next) start }
 {
-    let next = st.next;
-    let count = g.count;
-    if next < count {
-        return token_start(tokens, next);
+    if st.next < g.count {
+        return token_start(tokens, st.next);
     }
     start
 }
@@ -92,18 +85,14 @@ fn mark_end(tokens: &[u8], g: Given, stack: &[u8], st: St, start: u32) -> u32
         start ≡ mark_start C (world stack.now scratch nodes children records st) rest → result ≡
         mark_end C (world stack.now scratch nodes children records st) rest }
 {
-    let formed = st.formed;
-    let from = formed.from as usize;
     let next = st.next;
-    let popped = st.popped;
-    let height = st.height;
-    if from < next {
+    if (st.formed.from as usize) < next {
         return token_end(tokens, next - 1);
     }
-    if popped == 0 {
+    if st.popped == 0 {
         return end_unpopped(tokens, g, st, start);
     }
-    end_at(stack, height - 1)
+    end_at(stack, st.height - 1)
 }
 
 // "Its stretch is the tokens under popped symbols, popped marks' stretches included, then the dropped ones."
@@ -111,10 +100,8 @@ fn mark_first(stack: &[u8], st: St, rest: usize) -> u32
     requires { (32 * st.height ≤ length stack.now) × (rest + st.popped ≡ st.height) }
     ensures { result ≡ pick (eqb st.popped 0) st.formed.from (first_at stack.now rest) }
 {
-    let formed = st.formed;
-    let popped = st.popped;
-    if popped == 0 {
-        return formed.from;
+    if st.popped == 0 {
+        return st.formed.from;
     }
     first_at(stack, rest)
 }
@@ -125,10 +112,7 @@ pub fn error_cell(actions: &[u8], g: Given, stack: &[u8], height: usize) -> Cell
     ensures { (C : Call) → Acts C actions.now g → result ≡ action C.tables
         (top_at stack.now height) (error_column C.tables) }
 {
-    let states = g.states;
-    let kinds = g.kinds;
-    let top = top_at(stack, height) as usize;
-    cell_in(actions, states, kinds + 2, top, kinds)
+    cell_in(actions, g.states, g.kinds + 2, top_at(stack, height) as usize, g.kinds)
 }
 
 // "The repeated look that places the mark is free."
@@ -146,20 +130,15 @@ fn mark_entry(actions: &[u8], tokens: &[u8], g: Given, stack: &[u8], st: St, res
         Acts C actions.now g → result ≡
         mark_entry C (world stack.now scratch nodes children records st) rest }
 {
-    let next = st.next;
-    let node = st.nodes;
-    let mark = st.records;
-    let what = What::Mark(mark as u32);
     let start = mark_start(tokens, g, stack, st, rest);
-    let to = StateNo(error_state(actions, g, stack, rest));
     Entry {
-        what,
+        what: What::Mark(st.records as u32),
         start,
         end: mark_end(tokens, g, stack, st, start),
         first: mark_first(stack, st, rest),
-        after: next as u32,
-        state: to,
-        node: node as u32,
+        after: st.next as u32,
+        state: StateNo(error_state(actions, g, stack, rest)),
+        node: st.nodes as u32,
     }
 }
 
@@ -179,16 +158,10 @@ fn marked(
         world stack.new scratch nodes.new children records.new result ≡
         marked C (world stack.old scratch nodes.old children records.old st) rest e }
 {
-    let states = g.states;
-    let kinds = g.kinds;
-    let node = st.nodes;
-    let mark = st.records;
-    let next = st.next;
-    let formed = st.formed;
-    put_record(actions, states, kinds, records, mark, formed, e);
+    put_record(actions, g.states, g.kinds, records, st.records, st.formed, e);
     put_entry(stack, rest, e);
-    put_node(nodes, node, e, 0, 0);
-    grown(st, rest + 1, 0, 1, next, Mode::Main)
+    put_node(nodes, st.nodes, e, 0, 0);
+    grown(st, rest + 1, 0, 1, st.next, Mode::Main)
 }
 
 // The entry is made before it is written: it is read off the popped symbols.
@@ -232,13 +205,11 @@ pub fn recover(
         world stack.new scratch nodes.new children records.new result ≡
         recover C (world stack.old scratch nodes.old children records.old st) }
 {
-    let node = st.nodes;
-    let count = st.records;
     let rest = st.height - st.popped;
-    if nodes.len() / 32 < node + 1 {
+    if nodes.len() / 32 < st.nodes + 1 {
         return ended(st, Answer::OutOfNodes);
     }
-    if records.len() / 64 < count + 1 {
+    if records.len() / 64 < st.records + 1 {
         return ended(st, Answer::OutOfRecords);
     }
     mark(actions, tokens, g, stack, nodes, records, st, rest)

@@ -5,9 +5,9 @@ use Rattle.model.specs.Model.{begin}
 use Rattle.moves.specs.Serving.{depth_fits_law, too_deep}
 use Rattle.driver.proofs.read_first.Goals as goal
 
-pub returns-then-depth-lt1 : goal.returns-then-depth-lt1
+pub returns-then-g-lt1 : goal.returns-then-g-lt1
 unfolding begin
-returns-then-depth-lt1 c = λ C m e. rw (too_deep m 1 c.if-depth-lt1.true, ← e) c.ended.ensures
+returns-then-g-lt1 c = λ C m e. rw (too_deep m 1 c.if-g-lt1.true, ← e) c.ended.ensures
 
 pub returns : goal.returns
 unfolding begin

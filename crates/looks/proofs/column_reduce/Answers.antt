@@ -5,10 +5,10 @@ use Rattle.looks.specs.Cases.{column_more}
 use Rattle.looks.specs.Deciding.{on_act}
 use Rattle.looks.proofs.column_reduce.Goals as goal
 
-pub returns-then-number-eq0 : goal.returns-then-number-eq0
+pub returns-then-p-eq0 : goal.returns-then-p-eq0
 unfolding column_reduce on_act root_at
-returns-then-number-eq0 c = (λ g. tt, λ C scratch nodes children records. rw (c.if-number-eq0.true, c.root_at.ensures))
+returns-then-p-eq0 c = (λ g. tt, λ C scratch nodes children records. rw (c.if-p-eq0.true, c.root_at.ensures))
 
 pub returns : goal.returns
 unfolding on_act
-returns c = (λ g. tt, λ C scratch nodes children records. column_more _ _ _ c.if-number-eq0.false)
+returns c = (λ g. tt, λ C scratch nodes children records. column_more _ _ _ c.if-p-eq0.false)

@@ -5,10 +5,10 @@ use Rattle.moves.specs.Serving.{has_token_law, no_token_law}
 use Rattle.looks.specs.Deciding.{on_act}
 use Rattle.looks.proofs.main_shift.Goals as goal
 
-pub returns-then-next-count : goal.returns-then-next-count
+pub returns-then-st-g : goal.returns-then-st-g
 unfolding main_look on_act
-returns-then-next-count c = (c.if-next-count.true, λ C tokens stack scratch nodes children records m. rw (has_token_law m _ c.if-next-count.true))
+returns-then-st-g c = (c.if-st-g.true, λ C tokens stack scratch nodes children records m. rw (has_token_law m _ c.if-st-g.true))
 
 pub returns : goal.returns
 unfolding main_look on_act
-returns c = (tt, λ C tokens stack scratch nodes children records m. rw (no_token_law m _ c.if-next-count.false))
+returns c = (tt, λ C tokens stack scratch nodes children records m. rw (no_token_law m _ c.if-st-g.false))

@@ -4,22 +4,22 @@ use borrow.Author.Tests.{eq-eqb, ne_eqb, lt-ltb, le-ltb}
 use Rattle.model.specs.Model.{mark_end, has_dropped}
 use Rattle.recovery.proofs.mark_end.Goals as goal
 
-pub returns-then-from-next : goal.returns-then-from-next
+pub returns-then-st-next : goal.returns-then-st-next
 unfolding mark_end has_dropped
-returns-then-from-next c = λ C scratch nodes children records rest m e. rw (lt-ltb _ _ c.if-from-next.true, m.tokens_are)
+returns-then-st-next c = λ C scratch nodes children records rest m e. rw (lt-ltb _ _ c.if-st-next.true, m.tokens_are)
     c.token_end.ensures
 
-pub returns-then-popped-eq0 : goal.returns-then-popped-eq0
+pub returns-then-st-eq0 : goal.returns-then-st-eq0
 unfolding mark_end has_dropped
-returns-then-popped-eq0 c = λ C scratch nodes children records rest m e. rw (
-  le-ltb _ _ c.if-from-next.false,
-  eq-eqb _ _ c.if-popped-eq0.true,
+returns-then-st-eq0 c = λ C scratch nodes children records rest m e. rw (
+  le-ltb _ _ c.if-st-next.false,
+  eq-eqb _ _ c.if-st-eq0.true,
   ← e,
 ) (c.end_unpopped.ensures C m)
 
 pub returns : goal.returns
 unfolding mark_end has_dropped
 returns c = λ C scratch nodes children records rest m e. rw (
-  le-ltb _ _ c.if-from-next.false,
-  ne_eqb _ _ c.if-popped-eq0.false,
+  le-ltb _ _ c.if-st-next.false,
+  ne_eqb _ _ c.if-st-eq0.false,
 ) c.end_at.ensures

@@ -3,8 +3,8 @@
 use borrow.Author.Tests.{eq-eqb, ne_eqb}
 use Rattle.recovery.proofs.mark_first.Goals as goal
 
-pub returns-then-popped-eq0 : goal.returns-then-popped-eq0
-returns-then-popped-eq0 c = rw (eq-eqb _ _ c.if-popped-eq0.true)
+pub returns-then-st-eq0 : goal.returns-then-st-eq0
+returns-then-st-eq0 c = rw (eq-eqb _ _ c.if-st-eq0.true)
 
 pub returns : goal.returns
-returns c = rw (ne_eqb _ _ c.if-popped-eq0.false) c.first_at.ensures
+returns c = rw (ne_eqb _ _ c.if-st-eq0.false) c.first_at.ensures

@@ -6,4 +6,4 @@ use Rattle.recovery.proofs.mark_start.Goals as goal
 
 pub returns : goal.returns
 unfolding mark_start
-returns c = λ C scratch nodes children records m. rw (ne_eqb _ _ c.if-popped-eq0.false) c.start_at.ensures
+returns c = λ C scratch nodes children records m. rw (ne_eqb _ _ c.if-st-eq0.false) c.start_at.ensures

@@ -5,16 +5,16 @@ use Rattle.std.proofs.lemmas.Bool.{lt-leb}
 use Rattle.model.specs.Model.{place_mark, recover}
 use Rattle.recovery.proofs.recover.Goals as goal
 
-pub returns-then-nodes-node : goal.returns-then-nodes-node
+pub returns-then-nodes-st : goal.returns-then-nodes-st
 unfolding recover place_mark
-returns-then-nodes-node c = let h : length c.args.nodes.now / 32 < c.args.st.nodes + 1 = omega arith in
+returns-then-nodes-st c = let h : length c.args.nodes.now / 32 < c.args.st.nodes + 1 = omega arith in
     λ C scratch children m n. rw (lt-leb _ _ h, c.ended.ensures)
 
-pub returns-then-records-count : goal.returns-then-records-count
+pub returns-then-records-st : goal.returns-then-records-st
 unfolding recover place_mark
-returns-then-records-count c = let h : c.args.st.nodes + 1 ≤ length c.args.nodes.now / 32 = omega arith in
+returns-then-records-st c = let h : c.args.st.nodes + 1 ≤ length c.args.nodes.now / 32 = omega arith in
     let k : length c.args.records.now / 64 < c.args.st.records + 1 = omega arith in
-    λ C scratch children m n. rw (le-leb _ _ h, lt-leb _ _ k, c.ended-then-records-count.ensures)
+    λ C scratch children m n. rw (le-leb _ _ h, lt-leb _ _ k, c.ended-then-records-st.ensures)
 
 pub returns : goal.returns
 unfolding recover place_mark

@@ -4,11 +4,11 @@ use borrow.Author.Tests.{lt-ltb, le-ltb}
 use Rattle.model.specs.Model.{mark_start, has_dropped}
 use Rattle.recovery.proofs.start_unpopped.Goals as goal
 
-pub returns-then-from-next : goal.returns-then-from-next
+pub returns-then-from-st : goal.returns-then-from-st
 unfolding mark_start has_dropped
-returns-then-from-next c = λ C scratch nodes children records m. rw (
+returns-then-from-st c = λ C scratch nodes children records m. rw (
   c.requires.0,
-  lt-ltb _ _ c.if-from-next.true,
+  lt-ltb _ _ c.if-from-st.true,
   m.tokens_are,
 ) c.token_start.ensures
 
@@ -16,5 +16,5 @@ pub returns : goal.returns
 unfolding mark_start has_dropped
 returns c = λ C scratch nodes children records m. rw (
   c.requires.0,
-  le-ltb _ _ c.if-from-next.false,
+  le-ltb _ _ c.if-from-st.false,
 ) (c.end_below.ensures C m.origin_is)
