@@ -1,4 +1,4 @@
--- The code holds a call as numbers and slices: here is when these serve a call of the byte model. A contract speaks of every call
+-- The code holds a call as slices and numbers: here is when these serve a call of the byte model. A contract speaks of every call
 -- that they serve, so that it says nothing of the slices that a run does not read (right sides, items, sets).
 use Rattle.std.specs.Prelude.{true, false, List, ◌≡◌, ℕ, ◌+◌, ◌*◌, ◌<◌, ◌≤◌, eqb, ltb, leb}
 use Rattle.std.proofs.Common.{lt-ltb, le-ltb, le-leb}
@@ -12,8 +12,8 @@ use Rattle.model.specs.Model.{Call, World, ended, read_to}
 use Rattle.moves.specs.declared.Given.{Given}
 
 -- tokens, and the call's own numbers
-pub record Reads (C : Call) (tokens : List ℕ) (g : Given) : Type 0 where
-  pub tokens_are : C.tokens ≡ tokens
+pub record Reads (C : Call) (g : Given) : Type 0 where
+  pub tokens_are : C.tokens ≡ g.tokens.now
   pub count_is : C.count ≡ g.count
   pub origin_is : C.origin ≡ g.origin
   pub depth_is : C.depth ≡ g.depth
@@ -21,50 +21,56 @@ pub record Reads (C : Call) (tokens : List ℕ) (g : Given) : Type 0 where
   pub flag_is : eqb (flag C.tables) 1 ≡ g.recovers
 
 -- gotos and productions
-pub record Goes (C : Call) (gotos productions : List ℕ) (g : Given) : Type 0 where
-  pub gotos_are : C.tables.gotos ≡ gotos
-  pub productions_are : C.tables.productions ≡ productions
+pub record Goes (C : Call) (g : Given) : Type 0 where
+  pub gotos_are : C.tables.gotos ≡ g.gotos.now
+  pub productions_are : C.tables.productions ≡ g.productions.now
   pub states_are : states C.tables ≡ g.states
   pub nonterminals_are : nonterminals C.tables ≡ g.nonterminals
 
 -- actions
-pub record Acts (C : Call) (actions : List ℕ) (g : Given) : Type 0 where
-  pub actions_are : C.tables.actions ≡ actions
+pub record Acts (C : Call) (g : Given) : Type 0 where
+  pub actions_are : C.tables.actions ≡ g.actions.now
   pub states_are : states C.tables ≡ g.states
   pub kinds_are : kinds C.tables ≡ g.kinds
 
+-- all of it
+pub record Serves (C : Call) (g : Given) : Type 0 where
+  pub reads : Reads C g
+  pub goes : Goes C g
+  pub acts : Acts C g
+
 -- is there a lookahead token?
-pub has_token_law : {C : Call} {tokens : List ℕ} {g : Given} → Reads C tokens g → (n : ℕ) → n < g.count → ltb n C.count ≡ true
+pub has_token_law : {C : Call} {g : Given} → Reads C g → (n : ℕ) → n < g.count → ltb n C.count ≡ true
 has_token_law {g} m n h = rw m.count_is (lt-ltb n g.count h)
 
-pub no_token_law : {C : Call} {tokens : List ℕ} {g : Given} → Reads C tokens g → (n : ℕ) → g.count ≤ n → ltb n C.count ≡ false
+pub no_token_law : {C : Call} {g : Given} → Reads C g → (n : ℕ) → g.count ≤ n → ltb n C.count ≡ false
 no_token_law {g} m n h = rw m.count_is (le-ltb n g.count h)
 
 -- the limit on depth
-pub depth_fits_law : {C : Call} {tokens : List ℕ} {g : Given} → Reads C tokens g → (n : ℕ) → n ≤ g.depth → leb n C.depth ≡ true
+pub depth_fits_law : {C : Call} {g : Given} → Reads C g → (n : ℕ) → n ≤ g.depth → leb n C.depth ≡ true
 depth_fits_law {g} m n h = rw m.depth_is (le-leb n g.depth h)
 
-pub too_deep : {C : Call} {tokens : List ℕ} {g : Given} → Reads C tokens g → (n : ℕ) → g.depth < n → leb n C.depth ≡ false
+pub too_deep : {C : Call} {g : Given} → Reads C g → (n : ℕ) → g.depth < n → leb n C.depth ≡ false
 too_deep {g} m n h = rw m.depth_is (lt-leb n g.depth h)
 
 -- the rules' readers over the slices
-pub action_is : {C : Call} {actions : List ℕ} {g : Given} → Acts C actions g → (s c : ℕ) → action C.tables s c ≡
-    cell_in actions g.states (g.kinds + 2) s c
+pub action_is : {C : Call} {g : Given} → Acts C g → (s c : ℕ) → action C.tables s c ≡
+    cell_in g.actions.now g.states (g.kinds + 2) s c
 unfolding action cell_in
 action_is m s c = rw (← m.actions_are, ← m.states_are, ← m.kinds_are)
 
-pub goto_is : {C : Call} {gotos productions : List ℕ} {g : Given} → Goes C gotos productions g → (s j : ℕ) →
-    goto C.tables s j ≡ cell_in gotos g.states g.nonterminals s j
+pub goto_is : {C : Call} {g : Given} → Goes C g → (s j : ℕ) →
+    goto C.tables s j ≡ cell_in g.gotos.now g.states g.nonterminals s j
 unfolding goto cell_in
 goto_is m s j = rw (← m.gotos_are, ← m.states_are, ← m.nonterminals_are)
 
-pub left_is : {C : Call} {gotos productions : List ℕ} {g : Given} → Goes C gotos productions g → (p : ℕ) → left C.tables p ≡
-    word16 productions (4 * p)
+pub left_is : {C : Call} {g : Given} → Goes C g → (p : ℕ) → left C.tables p ≡
+    word16 g.productions.now (4 * p)
 unfolding left
 left_is m p = rw m.productions_are
 
-pub size_is : {C : Call} {gotos productions : List ℕ} {g : Given} → Goes C gotos productions g → (p : ℕ) → size C.tables p ≡
-    word16 productions (4 * p + 2)
+pub size_is : {C : Call} {g : Given} → Goes C g → (p : ℕ) → size C.tables p ≡
+    word16 g.productions.now (4 * p + 2)
 unfolding size
 size_is m p = rw m.productions_are
 

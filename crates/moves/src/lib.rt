@@ -2,7 +2,8 @@
 // Each function is the definition of the same name of the byte model. None writes to a room.
 #![tactic(auto)]
 
-ghost use Rattle.std.specs.Prelude.{List, ◌≡◌, ℕ, ◌+◌, ◌-◌, ◌<◌, ◌^◌, length};
+ghost use Rattle.std.specs.Prelude.{List, ◌≡◌, ℕ, ◌+◌, ◌-◌, ◌<◌, ◌^◌, eqb, length};
+ghost use Rattle.rules.specs.Tables.{flag};
 ghost use Rattle.rules.specs.Driving.{answer_of};
 ghost use Rattle.model.specs.Model.{Call, counted, ended, read_to, failing, searching, dropped, simulating, grown, judged, arrived, fail, drop_token, further};
 ghost use Rattle.moves.specs.Serving.{Reads, world, unknown_at};
@@ -12,9 +13,14 @@ use model::{Mode, St};
 use rooms::{token_end, token_kind, top_at};
 use rules::{Answer, Formed, StateNo};
 
-// A call's numbers: the tables' sizes, whether the flag is 1, the number of tokens, the start location and the depth that fits.
+// A call, but for its rooms: the tables' slices and sizes, whether the flag is 1, the tokens and how many they are, the start
+// location and the depth that fits.
 #[derive(Clone, Copy)]
-pub struct Given {
+pub struct Given<'a> {
+    pub actions: &'a [u8],
+    pub gotos: &'a [u8],
+    pub productions: &'a [u8],
+    pub tokens: &'a [u8],
     pub states: usize,
     pub kinds: usize,
     pub nonterminals: usize,
@@ -189,31 +195,31 @@ fn unknown(tokens: &[u8], st: St, top: u32) -> St
 }
 
 // "Kind 65535 is the tokenizer's own error: answer 6, last location unchanged."
-fn judge(tokens: &[u8], g: Given, st: St, top: u32) -> St
+fn judge(g: &Given, st: St, top: u32) -> St
     requires { st.next < 2 ^ 32 }
-    ensures { (C : Call) → Reads C tokens.now g → result ≡ judged C st top }
+    ensures { (C : Call) → Reads C g.now → result ≡ judged C st top }
 {
     let next = st.next;
     let kinds = g.kinds;
-    let kind = token_kind(tokens, next) as usize;
+    let kind = token_kind(g.tokens, next) as usize;
     if kind == 65535 {
         return ended(st, Answer::TokenizerError(next as u32));
     }
     if kind < kinds {
-        return read_to(st, token_end(tokens, next));
+        return read_to(st, token_end(g.tokens, next));
     }
-    unknown(tokens, st, top)
+    unknown(g.tokens, st, top)
 }
 
 // `next_token` of the Rust: the token at `next` is read, if there is one.
-pub fn arrive(tokens: &[u8], g: Given, st: St, top: u32) -> St
+pub fn arrive(g: &Given, st: St, top: u32) -> St
     requires { st.next < 2 ^ 32 }
-    ensures { (C : Call) → Reads C tokens.now g → result ≡ arrived C st top }
+    ensures { (C : Call) → Reads C g.now → result ≡ arrived C st top }
 {
     let next = st.next;
     let count = g.count;
     if next < count {
-        return judge(tokens, g, st, top);
+        return judge(g, st, top);
     }
     st
 }
@@ -231,8 +237,8 @@ pub fn answer_of(f: Formed) -> Answer
 }
 
 // "Flag 0: an error cell gives 3, or 4 at the end, at once. Recovery, flag 1: form the error".
-pub fn fail(g: Given, st: St, f: Formed) -> St
-    ensures { (C : Call) (tokens stack scratch nodes children records : List ℕ) → Reads C tokens g →
+pub fn fail(g: &Given, st: St, f: Formed) -> St
+    ensures { (C : Call) (stack scratch nodes children records : List ℕ) → eqb (flag C.tables) 1 ≡ g.now.recovers →
         world stack scratch nodes children records result ≡ fail C (world stack scratch nodes children records st) f }
 {
     let recovers = g.recovers;
@@ -243,9 +249,9 @@ pub fn fail(g: Given, st: St, f: Formed) -> St
 }
 
 // "No state: drop the lookahead, read on, search the same stack. At end of input with no state, answer the original error."
-fn drop_token(tokens: &[u8], g: Given, stack: &[u8], st: St) -> St
-    requires { Small g × Fine (length stack.now) g.depth g.count st }
-    ensures { (C : Call) (scratch nodes children records : List ℕ) → Reads C tokens.now g →
+fn drop_token(g: &Given, stack: &[u8], st: St) -> St
+    requires { Small g.now × Fine (length stack.now) g.now.depth g.now.count st }
+    ensures { (C : Call) (scratch nodes children records : List ℕ) → Reads C g.now →
         world stack.now scratch nodes children records result ≡
         drop_token C (world stack.now scratch nodes children records st) }
 {
@@ -254,15 +260,15 @@ fn drop_token(tokens: &[u8], g: Given, stack: &[u8], st: St) -> St
     let height = st.height;
     let formed = st.formed;
     if next < count {
-        return arrive(tokens, g, dropped(st), top_at(stack, height));
+        return arrive(g, dropped(st), top_at(stack, height));
     }
     ended(st, answer_of(formed))
 }
 
 // "If the error cell is not a shift, look further down."
-pub fn further(tokens: &[u8], g: Given, stack: &[u8], st: St) -> St
-    requires { Small g × Fine (length stack.now) g.depth g.count st }
-    ensures { (C : Call) (scratch nodes children records : List ℕ) → Reads C tokens.now g →
+pub fn further(g: &Given, stack: &[u8], st: St) -> St
+    requires { Small g.now × Fine (length stack.now) g.now.depth g.now.count st }
+    ensures { (C : Call) (scratch nodes children records : List ℕ) → Reads C g.now →
         world stack.now scratch nodes children records result ≡
         further C (world stack.now scratch nodes children records st) }
 {
@@ -271,5 +277,5 @@ pub fn further(tokens: &[u8], g: Given, stack: &[u8], st: St) -> St
     if popped < height {
         return searching(st, popped + 1);
     }
-    drop_token(tokens, g, stack, st)
+    drop_token(g, stack, st)
 }

@@ -8,7 +8,6 @@ ghost use Rattle.rules.specs.Tables.{target, goto, left};
 ghost use Rattle.model.specs.Model.{Call, token_entry, shifted, shift, end_below, empty_spot, production_entry, reduced, reduce_over, reduce};
 ghost use Rattle.moves.specs.Serving.{Reads, Goes, world};
 ghost use Rattle.moves.specs.Bounds.{Small, Fine};
-ghost use Rattle.moves.specs.declared.Given.{Given};
 
 use model::{Mode, St};
 use moves::{Given, arrive, ended, grown};
@@ -20,17 +19,17 @@ use rules::{Answer, Cell, Entry, ProdNo, StateNo, What};
 use tables::{cell_in, left, size};
 
 // "Each stack entry is a token, a mark or a production, with its span": here the lookahead.
-fn token_entry(tokens: &[u8], st: St, to: StateNo) -> Entry
+fn token_entry(g: &Given, st: St, to: StateNo) -> Entry
     requires { (st.next + 1 < 2 ^ 32) × (st.nodes < 2 ^ 32) }
-    ensures { (C : Call) (g : Given) → Reads C tokens.now g → result ≡ token_entry C st to }
+    ensures { (C : Call) → Reads C g.now → result ≡ token_entry C st to }
 {
     let next = st.next;
     let node = st.nodes;
     let what = What::Read(next as u32);
     Entry {
         what,
-        start: token_start(tokens, next),
-        end: token_end(tokens, next),
+        start: token_start(g.tokens, next),
+        end: token_end(g.tokens, next),
         first: next as u32,
         after: next as u32 + 1,
         state: to,
@@ -38,21 +37,20 @@ fn token_entry(tokens: &[u8], st: St, to: StateNo) -> Entry
     }
 }
 
-fn shifted(tokens: &[u8], g: Given, stack: &mut [u8], nodes: &mut [u8], st: St, to: StateNo) -> St
-    requires { Small g × Fine (length stack.old) g.depth g.count st × (st.next < g.count) ×
-        (st.height + 2 ≤ g.depth) × (32 * st.nodes + 32 ≤ length nodes.old) }
-    ensures { (C : Call) (scratch children records : List ℕ) → Reads C tokens.now g →
+fn shifted(g: &Given, stack: &mut [u8], nodes: &mut [u8], st: St, to: StateNo) -> St
+    requires { Small g.now × Fine (length stack.old) g.now.depth g.now.count st × (st.next < g.now.count) ×
+        (st.height + 2 ≤ g.now.depth) × (32 * st.nodes + 32 ≤ length nodes.old) }
+    ensures { (C : Call) (scratch children records : List ℕ) → Reads C g.now →
         world stack.new scratch nodes.new children records result ≡
         shifted C (world stack.old scratch nodes.old children records st) to }
 {
     let height = st.height;
     let node = st.nodes;
     let next = st.next;
-    let e = token_entry(tokens, st, to);
+    let e = token_entry(g, st, to);
     put_entry(stack, height, e);
     put_node(nodes, node, e, 0, 0);
     arrive(
-        tokens,
         g,
         grown(st, height + 1, 0, 0, next + 1, Mode::Main),
         to.0,
@@ -60,9 +58,9 @@ fn shifted(tokens: &[u8], g: Given, stack: &mut [u8], nodes: &mut [u8], st: St, 
 }
 
 // "20 depth, .., 22 nodes, .. tested in that order: .. before what that look pushes."
-pub fn shift(tokens: &[u8], g: Given, stack: &mut [u8], nodes: &mut [u8], st: St, to: StateNo) -> St
-    requires { Small g × Fine (length stack.old) g.depth g.count st × (st.next < g.count) }
-    ensures { (C : Call) (scratch children records : List ℕ) → Reads C tokens.now g →
+pub fn shift(g: &Given, stack: &mut [u8], nodes: &mut [u8], st: St, to: StateNo) -> St
+    requires { Small g.now × Fine (length stack.old) g.now.depth g.now.count st × (st.next < g.now.count) }
+    ensures { (C : Call) (scratch children records : List ℕ) → Reads C g.now →
         world stack.new scratch nodes.new children records result ≡
         shift C (world stack.old scratch nodes.old children records st) to }
 {
@@ -75,7 +73,7 @@ pub fn shift(tokens: &[u8], g: Given, stack: &mut [u8], nodes: &mut [u8], st: St
     if nodes.len() / 32 < node + 1 {
         return ended(st, Answer::OutOfNodes);
     }
-    shifted(tokens, g, stack, nodes, st, to)
+    shifted(g, stack, nodes, st, to)
 }
 
 // The state that a cell goes to.
@@ -90,15 +88,15 @@ pub fn target(cell: Cell) -> u32
 }
 
 // "Goto cells, by state and nonterminal": where the left side of a production leads from a state.
-pub fn goto_state(gotos: &[u8], productions: &[u8], g: Given, top: u32, p: ProdNo) -> u32
-    requires { Small g }
-    ensures { (C : Call) → Goes C gotos.now productions.now g → result ≡
+pub fn goto_state(g: &Given, top: u32, p: ProdNo) -> u32
+    requires { Small g.now }
+    ensures { (C : Call) → Goes C g.now → result ≡
         target (goto C.tables top (left C.tables p.0)) }
 {
     let states = g.states;
     let nonterminals = g.nonterminals;
-    let side = left(productions, p.0 as usize);
-    target(cell_in(gotos, states, nonterminals, top as usize, side))
+    let side = left(g.productions, p.0 as usize);
+    target(cell_in(g.gotos, states, nonterminals, top as usize, side))
 }
 
 // "the top symbol's end, else the start location"
@@ -113,41 +111,38 @@ pub fn end_below(origin: u32, stack: &[u8], rest: usize) -> u32
 }
 
 // "An empty one sits at the lookahead's start, else the top symbol's end, else the start location (our rule)."
-fn empty_spot(tokens: &[u8], g: Given, stack: &[u8], st: St, rest: usize) -> u32
+fn empty_spot(g: &Given, stack: &[u8], st: St, rest: usize) -> u32
     requires { (st.next < 2 ^ 32) × (32 * rest ≤ length stack.now) }
-    ensures { (C : Call) (scratch nodes children records : List ℕ) → Reads C tokens.now g → result ≡
+    ensures { (C : Call) (scratch nodes children records : List ℕ) → Reads C g.now → result ≡
         empty_spot C (world stack.now scratch nodes children records st) rest }
 {
     let next = st.next;
     let count = g.count;
     let origin = g.origin;
     if next < count {
-        return token_start(tokens, next);
+        return token_start(g.tokens, next);
     }
     end_below(origin, stack, rest)
 }
 
 // "An empty .. production holds the lookahead's index twice".
 fn empty_production(
-    gotos: &[u8],
-    productions: &[u8],
-    tokens: &[u8],
-    g: Given,
+    g: &Given,
     stack: &[u8],
     st: St,
     p: ProdNo,
     rest: usize,
 ) -> Entry
-    requires { Small g × Fine (length stack.now) g.depth g.count st × (32 * rest ≤ length stack.now) }
-    ensures { (C : Call) (scratch nodes children records : List ℕ) → Reads C tokens.now g →
-        Goes C gotos.now productions.now g → result ≡
+    requires { Small g.now × Fine (length stack.now) g.now.depth g.now.count st × (32 * rest ≤ length stack.now) }
+    ensures { (C : Call) (scratch nodes children records : List ℕ) → Reads C g.now →
+        Goes C g.now → result ≡
         production_entry C (world stack.now scratch nodes children records st) p.0 0 rest }
 {
     let next = st.next;
     let node = st.nodes;
     let what = What::Production(p.0);
-    let spot = empty_spot(tokens, g, stack, st, rest);
-    let to = StateNo(goto_state(gotos, productions, g, top_at(stack, rest), p));
+    let spot = empty_spot(g, stack, st, rest);
+    let to = StateNo(goto_state(g, top_at(stack, rest), p));
     Entry {
         what,
         start: spot,
@@ -161,24 +156,21 @@ fn empty_production(
 
 // "A reduced symbol spans its first symbol's start to its last one's end."
 fn full_production(
-    gotos: &[u8],
-    productions: &[u8],
-    g: Given,
+    g: &Given,
     stack: &[u8],
     st: St,
     p: ProdNo,
     k: usize,
     rest: usize,
 ) -> Entry
-    requires { Small g × Fine (length stack.now) g.depth g.count st × (rest + k ≡ st.height) × (0 < k) }
-    ensures { (C : Call) (scratch nodes children records : List ℕ) → Goes C gotos.now
-        productions.now g → result ≡ production_entry C (world stack.now scratch nodes children records st)
+    requires { Small g.now × Fine (length stack.now) g.now.depth g.now.count st × (rest + k ≡ st.height) × (0 < k) }
+    ensures { (C : Call) (scratch nodes children records : List ℕ) → Goes C g.now → result ≡ production_entry C (world stack.now scratch nodes children records st)
         p.0 k rest }
 {
     let last = st.height - 1;
     let node = st.nodes;
     let what = What::Production(p.0);
-    let to = StateNo(goto_state(gotos, productions, g, top_at(stack, rest), p));
+    let to = StateNo(goto_state(g, top_at(stack, rest), p));
     Entry {
         what,
         start: start_at(stack, rest),
@@ -191,25 +183,22 @@ fn full_production(
 }
 
 fn production_entry(
-    gotos: &[u8],
-    productions: &[u8],
-    tokens: &[u8],
-    g: Given,
+    g: &Given,
     stack: &[u8],
     st: St,
     p: ProdNo,
     k: usize,
     rest: usize,
 ) -> Entry
-    requires { Small g × Fine (length stack.now) g.depth g.count st × (rest + k ≡ st.height) }
-    ensures { (C : Call) (scratch nodes children records : List ℕ) → Reads C tokens.now g →
-        Goes C gotos.now productions.now g → result ≡
+    requires { Small g.now × Fine (length stack.now) g.now.depth g.now.count st × (rest + k ≡ st.height) }
+    ensures { (C : Call) (scratch nodes children records : List ℕ) → Reads C g.now →
+        Goes C g.now → result ≡
         production_entry C (world stack.now scratch nodes children records st) p.0 k rest }
 {
     if k == 0 {
-        return empty_production(gotos, productions, tokens, g, stack, st, p, rest);
+        return empty_production(g, stack, st, p, rest);
     }
-    full_production(gotos, productions, g, stack, st, p, k, rest)
+    full_production(g, stack, st, p, k, rest)
 }
 
 // "an empty production's first child entry, are 0"
@@ -223,10 +212,7 @@ fn child_of(k: usize, at: u32) -> u32
 }
 
 fn reduced(
-    gotos: &[u8],
-    productions: &[u8],
-    tokens: &[u8],
-    g: Given,
+    g: &Given,
     stack: &mut [u8],
     nodes: &mut [u8],
     children: &mut [u8],
@@ -235,11 +221,10 @@ fn reduced(
     k: usize,
     rest: usize,
 ) -> St
-    requires { Small g × Fine (length stack.old) g.depth g.count st × (rest + k ≡ st.height) ×
-        (rest + 2 ≤ g.depth) × (4 * (st.children + k) ≤ length children.old) ×
+    requires { Small g.now × Fine (length stack.old) g.now.depth g.now.count st × (rest + k ≡ st.height) ×
+        (rest + 2 ≤ g.now.depth) × (4 * (st.children + k) ≤ length children.old) ×
         (32 * st.nodes + 32 ≤ length nodes.old) }
-    ensures { (C : Call) (scratch records : List ℕ) → Reads C tokens.now g → Goes C gotos.now
-        productions.now g → world stack.new scratch nodes.new children.new records result ≡
+    ensures { (C : Call) (scratch records : List ℕ) → Reads C g.now → Goes C g.now → world stack.new scratch nodes.new children.new records result ≡
         reduced C (world stack.old scratch nodes.old children.old records st)
         p.0 k rest }
 {
@@ -247,7 +232,7 @@ fn reduced(
     let node = st.nodes;
     let next = st.next;
     let mode = st.mode;
-    let e = production_entry(gotos, productions, tokens, g, stack, st, p, k, rest);
+    let e = production_entry(g, stack, st, p, k, rest);
     copy_nodes(children, at, stack, rest, k);
     put_entry(stack, rest, e);
     put_node(nodes, node, e, child_of(k, at as u32), k as u32);
@@ -256,10 +241,7 @@ fn reduced(
 
 // "Reduction: 20 (after its pops), 21, 22."
 fn reduce_over(
-    gotos: &[u8],
-    productions: &[u8],
-    tokens: &[u8],
-    g: Given,
+    g: &Given,
     stack: &mut [u8],
     nodes: &mut [u8],
     children: &mut [u8],
@@ -268,9 +250,8 @@ fn reduce_over(
     k: usize,
     rest: usize,
 ) -> St
-    requires { Small g × Fine (length stack.old) g.depth g.count st × (rest + k ≡ st.height) }
-    ensures { (C : Call) (scratch records : List ℕ) → Reads C tokens.now g → Goes C gotos.now
-        productions.now g → world stack.new scratch nodes.new children.new records result ≡
+    requires { Small g.now × Fine (length stack.old) g.now.depth g.now.count st × (rest + k ≡ st.height) }
+    ensures { (C : Call) (scratch records : List ℕ) → Reads C g.now → Goes C g.now → world stack.new scratch nodes.new children.new records result ≡
         reduce_over C (world stack.old scratch nodes.old children.old records st)
         p.0 k rest }
 {
@@ -287,9 +268,6 @@ fn reduce_over(
         return ended(st, Answer::OutOfNodes);
     }
     reduced(
-        gotos,
-        productions,
-        tokens,
         g,
         stack,
         nodes,
@@ -312,27 +290,20 @@ fn least(a: usize, b: usize) -> usize
 
 // Popping more than there is stops at the bottom: for tables that pass the check there is always enough.
 pub fn reduce(
-    gotos: &[u8],
-    productions: &[u8],
-    tokens: &[u8],
-    g: Given,
+    g: &Given,
     stack: &mut [u8],
     nodes: &mut [u8],
     children: &mut [u8],
     st: St,
     p: ProdNo,
 ) -> St
-    requires { Small g × Fine (length stack.old) g.depth g.count st }
-    ensures { (C : Call) (scratch records : List ℕ) → Reads C tokens.now g → Goes C gotos.now
-        productions.now g → world stack.new scratch nodes.new children.new records result ≡
+    requires { Small g.now × Fine (length stack.old) g.now.depth g.now.count st }
+    ensures { (C : Call) (scratch records : List ℕ) → Reads C g.now → Goes C g.now → world stack.new scratch nodes.new children.new records result ≡
         reduce C (world stack.old scratch nodes.old children.old records st) p.0 }
 {
     let height = st.height;
-    let k = least(size(productions, p.0 as usize), height);
+    let k = least(size(g.productions, p.0 as usize), height);
     reduce_over(
-        gotos,
-        productions,
-        tokens,
         g,
         stack,
         nodes,

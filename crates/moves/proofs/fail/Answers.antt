@@ -5,12 +5,12 @@ use Rattle.moves.proofs.fail.Goals as goal
 
 pub returns-then-recovers : goal.returns-then-recovers
 unfolding fail
-returns-then-recovers c = λ C tokens stack scratch nodes children records m. rw (m.flag_is, c.if-recovers.true, c.failing.ensures)
+returns-then-recovers c = λ C stack scratch nodes children records r. rw (r, c.if-recovers.true, c.failing.ensures)
 
 pub returns : goal.returns
 unfolding fail
-returns c = λ C tokens stack scratch nodes children records m. rw (
-  m.flag_is,
+returns c = λ C stack scratch nodes children records r. rw (
+  r,
   c.if-recovers.false,
   c.ended.ensures,
   c.answer_of.ensures,

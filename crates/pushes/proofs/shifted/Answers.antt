@@ -14,5 +14,5 @@ returns c = λ C scratch children records m. rw (
   c.put_node.ensures,
   c.arrive.ensures C m,
   c.grown.ensures,
-  c.token_entry-e.ensures C c.args.g m,
+  c.token_entry-e.ensures C m,
 )

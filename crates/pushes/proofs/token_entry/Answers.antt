@@ -5,4 +5,4 @@ use Rattle.pushes.proofs.token_entry.Goals as goal
 
 pub returns : goal.returns
 unfolding token_entry
-returns c = λ C g m. rw (m.tokens_are, ← c.token_start.ensures, ← c.token_end.ensures)
+returns c = λ C m. rw (m.tokens_are, ← c.token_start.ensures, ← c.token_end.ensures)
