@@ -4,10 +4,10 @@ use Rattle.std.proofs.Common.{ap, ◌∙◌, arith}
 use Rattle.model.specs.declared.St.{St}
 use Rattle.model.specs.Model.{Call, World, counted, step, is_ended, run_from, begin}
 use Rattle.moves.specs.declared.Given.{Given}
-use Rattle.moves.specs.Serving.{Reads, Goes, Acts, world}
+use Rattle.moves.specs.Serving.{Reads, Serves, world}
 use Rattle.moves.specs.Bounds.{Fine, Simulable}
 use Rattle.driver.specs.Kept.{Kept, After, kept_step, kept_begin}
-use Rattle.driver.specs.Served.{call_of, reads_served, goes_served, acts_served}
+use Rattle.driver.specs.Served.{call_of, served}
 
 -- ---- bounds
 
@@ -55,14 +55,14 @@ onward_after C room scratch u g r d c k =
       units_are = k.0.units_are;
     }
 
-module _ (g : Given) (actions gotos productions tokens : List ℕ) where
+module _ (g : Given) where
   abbrev C : Call
-  C = call_of g actions gotos productions tokens
+  C = call_of g
 
   -- what is equal to every served call's step is equal to this one's, which keeps the bounds
   pub step_onward : (stack scratch nodes children records stack' scratch' nodes' children' records' : List ℕ) (s r : St) →
       Fine (length stack) g.depth g.count s → Simulable (length stack) (length scratch) g.depth s →
-      s.units + 1 < 2 ^ 32 → ((D : Call) → Reads D tokens g → Goes D gotos productions g → Acts D actions g →
+      s.units + 1 < 2 ^ 32 → ((D : Call) → Serves D g →
       world stack' scratch' nodes' children' records' r ≡ step D (world stack scratch nodes children records s)) →
       Onward (length stack) (length scratch) g (s.units + 1) r
   step_onward stack scratch nodes children records stack' scratch' nodes' children' records' s r f m h e =
@@ -81,15 +81,14 @@ module _ (g : Given) (actions gotos productions tokens : List ℕ) where
         units_are = refl;
         next_in = f.next_in;
       } in
-      let q : r ≡ (step C w).st = ap (λ (o : World). o.st) (e C (reads_served g actions gotos productions tokens)
-      (goes_served g actions gotos productions tokens) (acts_served g actions gotos productions tokens)) in
+      let q : r ≡ (step C w).st = ap (λ (o : World). o.st) (e C (served g)) in
       rw q (onward_after C (length stack) (length scratch)
       (s.units + 1) g (step C w).st refl refl (kept_step C (length stack) (length scratch) s.units w (k, f.within) h))
 
   pub begin_onward : (room scratch : ℕ) (r : St) → 32 * g.depth ≤ room → 4 * g.depth ≤ scratch → ((D : Call) →
-      Reads D tokens g → r ≡ begin D) → Onward room scratch g 0 r
+      Reads D g → r ≡ begin D) → Onward room scratch g 0 r
   begin_onward room scratch r h k e =
-      rw (e C (reads_served g actions gotos productions tokens))
+      rw (e C (served g).reads)
       (onward_after C room scratch 0 g (begin C) refl refl (kept_begin C room scratch h k))
 
 -- ---- a run is its steps
@@ -111,7 +110,7 @@ unfolding run_from
 run_none C n w e = rw e
 
 -- The invariant of a run: the rooms keep their lengths, the bounds hold, and what is left to run gives the whole.
-pub record Going (g : Given) (actions gotos productions tokens stack₀ scratch₀ nodes₀ children₀ records₀ : List ℕ) (s₀ : St)
+pub record Going (g : Given) (stack₀ scratch₀ nodes₀ children₀ records₀ : List ℕ) (s₀ : St)
     (budget : ℕ) (stack scratch nodes children records : List ℕ) (s : St) (left : ℕ) : Type 0 where
   pub stack_long : length stack ≡ length stack₀
   pub scratch_long : length scratch ≡ length scratch₀
@@ -121,23 +120,23 @@ pub record Going (g : Given) (actions gotos productions tokens stack₀ scratch�
   pub fine : Fine (length stack) g.depth g.count s
   pub simulable : Simulable (length stack) (length scratch) g.depth s
   pub budget_left : s.units + left < 2 ^ 32
-  pub rest : (C : Call) → Reads C tokens g → Goes C gotos productions g → Acts C actions g →
+  pub rest : (C : Call) → Serves C g →
       run_from C left (world stack scratch nodes children records s) ≡
       run_from C budget (world stack₀ scratch₀ nodes₀ children₀ records₀ s₀)
 
-module _ (g : Given) (actions gotos productions tokens stack₀ scratch₀ nodes₀ children₀ records₀ : List ℕ) (s₀ : St)
+module _ (g : Given) (stack₀ scratch₀ nodes₀ children₀ records₀ : List ℕ) (s₀ : St)
     (budget : ℕ) (stack scratch nodes children records : List ℕ) (s : St) (left : ℕ)
     (stack' scratch' nodes' children' records' : List ℕ) (r : St) (left' : ℕ) where
-  pub going_on : Going g actions gotos productions tokens stack₀ scratch₀ nodes₀ children₀ records₀ s₀ budget stack scratch
+  pub going_on : Going g stack₀ scratch₀ nodes₀ children₀ records₀ s₀ budget stack scratch
       nodes children records s left → left ≡ left' + 1 → is_ended s.mode ≡ false → length stack' ≡ length stack → length scratch' ≡
       length scratch → length nodes' ≡ length nodes → length children' ≡ length children → length records' ≡ length records →
-      ((C : Call) → Reads C tokens g → Goes C gotos productions g → Acts C actions g →
+      ((C : Call) → Serves C g →
       world stack' scratch' nodes' children' records' r ≡ step C (world stack scratch nodes children records s)) →
-      Going g actions gotos productions tokens stack₀ scratch₀ nodes₀ children₀ records₀ s₀ budget stack' scratch' nodes'
+      Going g stack₀ scratch₀ nodes₀ children₀ records₀ s₀ budget stack' scratch' nodes'
       children' records' r left'
   going_on k h e l₁ l₂ l₃ l₄ l₅ q =
       let o : Onward (length stack)
-      (length scratch) g (s.units + 1) r = step_onward g actions gotos productions tokens stack scratch nodes children
+      (length scratch) g (s.units + 1) r = step_onward g stack scratch nodes children
       records stack' scratch' nodes' children' records' s r k.fine k.simulable (omega arith) q in
       record {
         stack_long = l₁ ∙ k.stack_long;
@@ -149,7 +148,7 @@ module _ (g : Given) (actions gotos productions tokens stack₀ scratch₀ nodes
         simulable = rw (l₁, l₂) o.simulable;
         budget_left = let u : r.units ≡ s.units + 1 = o.units_are in let b : s.units + left < 2 ^ 32 = k.budget_left in
             omega arith;
-        rest = λ C m n a. run_turn C left left' (world stack scratch nodes children records s)
+        rest = λ C m. run_turn C left left' (world stack scratch nodes children records s)
             (world stack' scratch' nodes' children' records' r)
-            (run_from C budget (world stack₀ scratch₀ nodes₀ children₀ records₀ s₀)) h e (q C m n a) (k.rest C m n a);
+            (run_from C budget (world stack₀ scratch₀ nodes₀ children₀ records₀ s₀)) h e (q C m) (k.rest C m);
       }

@@ -4,7 +4,7 @@
 
 ghost use Rattle.std.specs.Prelude.{List, ◌≡◌, ℕ, ◌+◌, ◌*◌, ◌-◌, ◌/◌, ◌≤◌, ◌<◌, ◌^◌, min, length};
 ghost use Rattle.model.specs.Model.{Call, has_token, formed_at, fail, first_st, begin, step, is_ended, run_from};
-ghost use Rattle.moves.specs.Serving.{Reads, Goes, Acts, world};
+ghost use Rattle.moves.specs.Serving.{Reads, Serves, world};
 ghost use Rattle.moves.specs.Bounds.{Small, Fine, Simulable};
 ghost use Rattle.looks.specs.Deciding.{on_act, Sure};
 
@@ -37,27 +37,27 @@ fn first_st(origin: u32) -> St
     }
 }
 
-fn read_first(tokens: &[u8], g: Given, st: St) -> St
+fn read_first(g: &Given, st: St) -> St
     requires { st.next < 2 ^ 32 }
-    ensures { (C : Call) → Reads C tokens.now g → st ≡ first_st C → result ≡ begin C }
+    ensures { (C : Call) → Reads C g.now → st ≡ first_st C → result ≡ begin C }
 {
     if g.depth < 1 {
         return ended(st, Answer::OutOfDepth);
     }
-    arrive(tokens, g, st, 0)
+    arrive(g, st, 0)
 }
 
 // "Depth 0 is 20 at unit 0, after 10 to 18 and before all else."
-pub fn begin(tokens: &[u8], g: Given) -> St
-    ensures { (C : Call) → Reads C tokens.now g → result ≡ begin C }
+pub fn begin(g: &Given) -> St
+    ensures { (C : Call) → Reads C g.now → result ≡ begin C }
 {
-    read_first(tokens, g, first_st(g.origin))
+    read_first(g, first_st(g.origin))
 }
 
 // "3 unrecognized token: token, expected. 4 unrecognized end: last location, expected."
-fn formed_at(g: Given, stack: &[u8], st: St) -> Formed
+fn formed_at(g: &Given, stack: &[u8], st: St) -> Formed
     requires { (st.next < 2 ^ 32) × (32 * st.height ≤ length stack.now) }
-    ensures { (C : Call) (tokens scratch nodes children records : List ℕ) → Reads C tokens g → result ≡
+    ensures { (C : Call) (scratch nodes children records : List ℕ) → Reads C g.now → result ≡
         formed_at (world stack.now scratch nodes children records st) (has_token C st) }
 {
     let from = st.next as u32;
@@ -78,9 +78,9 @@ fn formed_at(g: Given, stack: &[u8], st: St) -> Formed
     }
 }
 
-fn fail_now(g: Given, stack: &[u8], st: St) -> St
+fn fail_now(g: &Given, stack: &[u8], st: St) -> St
     requires { (st.next < 2 ^ 32) × (32 * st.height ≤ length stack.now) }
-    ensures { (C : Call) (tokens scratch nodes children records : List ℕ) → Reads C tokens g →
+    ensures { (C : Call) (scratch nodes children records : List ℕ) → Reads C g.now →
         world stack.now scratch nodes children records result ≡
         fail C (world stack.now scratch nodes children records st)
         (formed_at (world stack.now scratch nodes children records st) (has_token C st)) }
@@ -90,11 +90,7 @@ fn fail_now(g: Given, stack: &[u8], st: St) -> St
 
 // What a look decided is done. Each act has one place, so that the whole step is one function of the machine's code.
 fn perform(
-    actions: &[u8],
-    gotos: &[u8],
-    productions: &[u8],
-    tokens: &[u8],
-    g: Given,
+    g: &Given,
     stack: &mut [u8],
     scratch: &mut [u8],
     nodes: &mut [u8],
@@ -103,33 +99,28 @@ fn perform(
     st: St,
     act: Act,
 ) -> St
-    requires { Small g × Fine (length stack.old) g.depth g.count st × (4 * g.depth ≤ length scratch.old) ×
-        Sure g st act }
-    ensures { (C : Call) → Reads C tokens.now g → Goes C gotos.now productions.now g →
-        Acts C actions.now g → world stack.new scratch.new nodes.new
+    requires { Small g.now × Fine (length stack.old) g.now.depth g.now.count st × (4 * g.now.depth ≤ length scratch.old) ×
+        Sure g.now st act }
+    ensures { (C : Call) → Serves C g.now → world stack.new scratch.new nodes.new
         children.new records.new result ≡ on_act C (world stack.old scratch.old
         nodes.old children.old records.old st) act }
 {
     match act {
-        Act::ShiftTo(to) => shift(tokens, g, stack, nodes, st, to),
-        Act::ReduceBy(p) => reduce(gotos, productions, tokens, g, stack, nodes, children, st, p),
+        Act::ShiftTo(to) => shift(g, stack, nodes, st, to),
+        Act::ReduceBy(p) => reduce(g, stack, nodes, children, st, p),
         Act::EndWith(answer) => ended(st, answer),
         Act::FailNow => fail_now(g, stack, st),
         Act::SearchTop => searching(st, 0),
-        Act::LookFurther => further(tokens, g, stack, st),
+        Act::LookFurther => further(g, stack, st),
         Act::SimulateFrom(base, pushed, s) => simulate_on(g, scratch, st, base, pushed, s),
-        Act::Recover => recover(actions, tokens, g, stack, nodes, records, st),
+        Act::Recover => recover(g, stack, nodes, records, st),
         Act::Stay => st,
     }
 }
 
 // "One unit is one look at an action cell": the look is counted, whatever comes of it.
 pub fn step(
-    actions: &[u8],
-    gotos: &[u8],
-    productions: &[u8],
-    tokens: &[u8],
-    g: Given,
+    g: &Given,
     stack: &mut [u8],
     scratch: &mut [u8],
     nodes: &mut [u8],
@@ -137,39 +128,15 @@ pub fn step(
     records: &mut [u8],
     st: St,
 ) -> St
-    requires { Small g × Fine (length stack.old) g.depth g.count st × Simulable (length stack.old)
-        (length scratch.old) g.depth st × (st.units + 1 < 2 ^ 32) }
-    ensures { (C : Call) → Reads C tokens.now g → Goes C gotos.now productions.now g →
-        Acts C actions.now g → world stack.new scratch.new nodes.new
+    requires { Small g.now × Fine (length stack.old) g.now.depth g.now.count st × Simulable (length stack.old)
+        (length scratch.old) g.now.depth st × (st.units + 1 < 2 ^ 32) }
+    ensures { (C : Call) → Serves C g.now → world stack.new scratch.new nodes.new
         children.new records.new result ≡ step C (world stack.old scratch.old
         nodes.old children.old records.old st) }
 {
     let s = counted(st);
-    let act = decide(
-        actions,
-        gotos,
-        productions,
-        tokens,
-        g,
-        stack,
-        scratch,
-        s,
-        st.mode,
-    );
-    perform(
-        actions,
-        gotos,
-        productions,
-        tokens,
-        g,
-        stack,
-        scratch,
-        nodes,
-        children,
-        records,
-        s,
-        act,
-    )
+    let act = decide(g, stack, scratch, s, st.mode);
+    perform(g, stack, scratch, nodes, children, records, s, act)
 }
 
 fn is_ended(mode: Mode) -> bool
@@ -180,11 +147,7 @@ fn is_ended(mode: Mode) -> bool
 
 // "19 is given exactly if another is needed": that is the answer that a run has while it has not ended.
 pub fn run(
-    actions: &[u8],
-    gotos: &[u8],
-    productions: &[u8],
-    tokens: &[u8],
-    g: Given,
+    g: &Given,
     stack: &mut [u8],
     scratch: &mut [u8],
     nodes: &mut [u8],
@@ -193,10 +156,9 @@ pub fn run(
     st: St,
     budget: u32,
 ) -> St
-    requires { Small g × Fine (length stack.old) g.depth g.count st × Simulable (length stack.old)
-        (length scratch.old) g.depth st × (st.units + budget < 2 ^ 32) }
-    ensures { (C : Call) → Reads C tokens.now g → Goes C gotos.now productions.now g →
-        Acts C actions.now g → world stack.new scratch.new nodes.new
+    requires { Small g.now × Fine (length stack.old) g.now.depth g.now.count st × Simulable (length stack.old)
+        (length scratch.old) g.now.depth st × (st.units + budget < 2 ^ 32) }
+    ensures { (C : Call) → Serves C g.now → world stack.new scratch.new nodes.new
         children.new records.new result ≡ run_from C budget (world stack.old scratch.old
         nodes.old children.old records.old st) }
 {
@@ -205,30 +167,14 @@ pub fn run(
         if is_ended(s.mode) {
             return s;
         }
-        s = step(
-            actions,
-            gotos,
-            productions,
-            tokens,
-            g,
-            stack,
-            scratch,
-            nodes,
-            children,
-            records,
-            s,
-        );
+        s = step(g, stack, scratch, nodes, children, records, s);
     }
     s
 }
 
 // `Parser::drive` of the Rust: a run from its beginning.
 pub fn drive(
-    actions: &[u8],
-    gotos: &[u8],
-    productions: &[u8],
-    tokens: &[u8],
-    g: Given,
+    g: &Given,
     stack: &mut [u8],
     scratch: &mut [u8],
     nodes: &mut [u8],
@@ -236,27 +182,12 @@ pub fn drive(
     records: &mut [u8],
     budget: u32,
 ) -> St
-    requires { Small g × (32 * g.depth ≤ length stack.old) × (4 * g.depth ≤ length scratch.old) }
-    ensures { (C : Call) → Reads C tokens.now g → Goes C gotos.now productions.now g →
-        Acts C actions.now g → world stack.new scratch.new nodes.new
+    requires { Small g.now × (32 * g.now.depth ≤ length stack.old) × (4 * g.now.depth ≤ length scratch.old) }
+    ensures { (C : Call) → Serves C g.now → world stack.new scratch.new nodes.new
         children.new records.new result ≡ run_from C budget (world stack.old scratch.old
         nodes.old children.old records.old (begin C)) }
 {
-    let st = begin(tokens, g);
-    run(
-        actions,
-        gotos,
-        productions,
-        tokens,
-        g,
-        stack,
-        scratch,
-        nodes,
-        children,
-        records,
-        st,
-        budget,
-    )
+    run(g, stack, scratch, nodes, children, records, begin(g), budget)
 }
 
 // "its limit is the shorter of stack and scratch room", in whole entries.

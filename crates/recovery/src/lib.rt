@@ -29,9 +29,9 @@ fn push_state(scratch: &mut [u8], st: St, base: usize, pushed: usize, s: u32) ->
 }
 
 // "Depth counts states, real or simulated, the first included".
-pub fn simulate_on(g: Given, scratch: &mut [u8], st: St, base: usize, pushed: usize, s: u32) -> St
-    requires { (4 * g.depth ≤ length scratch.old) × (base + pushed < 2 ^ 63) }
-    ensures { (C : Call) (tokens stack nodes children records : List ℕ) → Reads C tokens g →
+pub fn simulate_on(g: &Given, scratch: &mut [u8], st: St, base: usize, pushed: usize, s: u32) -> St
+    requires { (4 * g.now.depth ≤ length scratch.old) × (base + pushed < 2 ^ 63) }
+    ensures { (C : Call) (stack nodes children records : List ℕ) → C.depth ≡ g.now.depth →
         world stack scratch.new nodes children records result ≡
         simulate_on C (world stack scratch.old nodes children records st) base pushed s }
 {
@@ -42,55 +42,55 @@ pub fn simulate_on(g: Given, scratch: &mut [u8], st: St, base: usize, pushed: us
 }
 
 // "else the first dropped token's; else the end of the symbol below; else the start location"
-fn start_unpopped(tokens: &[u8], g: Given, stack: &[u8], st: St, rest: usize) -> u32
+fn start_unpopped(g: &Given, stack: &[u8], st: St, rest: usize) -> u32
     requires { (st.popped ≡ 0) × (32 * rest ≤ length stack.now) }
-    ensures { (C : Call) (scratch nodes children records : List ℕ) → Reads C tokens.now g → result ≡
+    ensures { (C : Call) (scratch nodes children records : List ℕ) → Reads C g.now → result ≡
         mark_start C (world stack.now scratch nodes children records st) rest }
 {
     let from = st.formed.from as usize;
     if from < st.next {
-        return token_start(tokens, from);
+        return token_start(g.tokens, from);
     }
     end_below(g.origin, stack, rest)
 }
 
 // "Mark start: the first popped symbol's start"
-fn mark_start(tokens: &[u8], g: Given, stack: &[u8], st: St, rest: usize) -> u32
-    requires { Fine (length stack.now) g.depth g.count st × (rest + st.popped ≡ st.height) }
-    ensures { (C : Call) (scratch nodes children records : List ℕ) → Reads C tokens.now g → result ≡
+fn mark_start(g: &Given, stack: &[u8], st: St, rest: usize) -> u32
+    requires { Fine (length stack.now) g.now.depth g.now.count st × (rest + st.popped ≡ st.height) }
+    ensures { (C : Call) (scratch nodes children records : List ℕ) → Reads C g.now → result ≡
         mark_start C (world stack.now scratch nodes children records st) rest }
 {
     if st.popped == 0 {
-        return start_unpopped(tokens, g, stack, st, rest);
+        return start_unpopped(g, stack, st, rest);
     }
     start_at(stack, rest)
 }
 
 // "else the lookahead's start; else the mark's start"
-fn end_unpopped(tokens: &[u8], g: Given, st: St, start: u32) -> u32
+fn end_unpopped(g: &Given, st: St, start: u32) -> u32
     requires { st.next < 2 ^ 32 }
-    ensures { (C : Call) → Reads C tokens.now g → result ≡ pick (has_token C st)
+    ensures { (C : Call) → Reads C g.now → result ≡ pick (has_token C st)
         (token_start C st.next) start }
 {
     if st.next < g.count {
-        return token_start(tokens, st.next);
+        return token_start(g.tokens, st.next);
     }
     start
 }
 
 // "Mark end: the last dropped token's end; else, if anything popped, the last symbol's end"
-fn mark_end(tokens: &[u8], g: Given, stack: &[u8], st: St, start: u32) -> u32
-    requires { Small g × Fine (length stack.now) g.depth g.count st × (st.popped ≤ st.height) }
-    ensures { (C : Call) (scratch nodes children records : List ℕ) (rest : ℕ) → Reads C tokens.now g →
+fn mark_end(g: &Given, stack: &[u8], st: St, start: u32) -> u32
+    requires { Small g.now × Fine (length stack.now) g.now.depth g.now.count st × (st.popped ≤ st.height) }
+    ensures { (C : Call) (scratch nodes children records : List ℕ) (rest : ℕ) → Reads C g.now →
         start ≡ mark_start C (world stack.now scratch nodes children records st) rest → result ≡
         mark_end C (world stack.now scratch nodes children records st) rest }
 {
     let next = st.next;
     if (st.formed.from as usize) < next {
-        return token_end(tokens, next - 1);
+        return token_end(g.tokens, next - 1);
     }
     if st.popped == 0 {
-        return end_unpopped(tokens, g, st, start);
+        return end_unpopped(g, st, start);
     }
     end_at(stack, st.height - 1)
 }
@@ -107,44 +107,42 @@ fn mark_first(stack: &[u8], st: St, rest: usize) -> u32
 }
 
 // The error cell of the state below which so many symbols lie.
-pub fn error_cell(actions: &[u8], g: Given, stack: &[u8], height: usize) -> Cell
-    requires { Small g × (32 * height ≤ length stack.now) }
-    ensures { (C : Call) → Acts C actions.now g → result ≡ action C.tables
+pub fn error_cell(g: &Given, stack: &[u8], height: usize) -> Cell
+    requires { Small g.now × (32 * height ≤ length stack.now) }
+    ensures { (C : Call) → Acts C g.now → result ≡ action C.tables
         (top_at stack.now height) (error_column C.tables) }
 {
-    cell_in(actions, g.states, g.kinds + 2, top_at(stack, height) as usize, g.kinds)
+    cell_in(g.actions, g.states, g.kinds + 2, top_at(stack, height) as usize, g.kinds)
 }
 
 // "The repeated look that places the mark is free."
-fn error_state(actions: &[u8], g: Given, stack: &[u8], rest: usize) -> u32
-    requires { Small g × (32 * rest ≤ length stack.now) }
-    ensures { (C : Call) → Acts C actions.now g → result ≡ target (action C.tables
+fn error_state(g: &Given, stack: &[u8], rest: usize) -> u32
+    requires { Small g.now × (32 * rest ≤ length stack.now) }
+    ensures { (C : Call) → Acts C g.now → result ≡ target (action C.tables
         (top_at stack.now rest) (error_column C.tables)) }
 {
-    target(error_cell(actions, g, stack, rest))
+    target(error_cell(g, stack, rest))
 }
 
-fn mark_entry(actions: &[u8], tokens: &[u8], g: Given, stack: &[u8], st: St, rest: usize) -> Entry
-    requires { Small g × Fine (length stack.now) g.depth g.count st × (rest + st.popped ≡ st.height) }
-    ensures { (C : Call) (scratch nodes children records : List ℕ) → Reads C tokens.now g →
-        Acts C actions.now g → result ≡
+fn mark_entry(g: &Given, stack: &[u8], st: St, rest: usize) -> Entry
+    requires { Small g.now × Fine (length stack.now) g.now.depth g.now.count st × (rest + st.popped ≡ st.height) }
+    ensures { (C : Call) (scratch nodes children records : List ℕ) → Reads C g.now → Acts C g.now → result ≡
         mark_entry C (world stack.now scratch nodes children records st) rest }
 {
-    let start = mark_start(tokens, g, stack, st, rest);
+    let start = mark_start(g, stack, st, rest);
     Entry {
         what: What::Mark(st.records as u32),
         start,
-        end: mark_end(tokens, g, stack, st, start),
+        end: mark_end(g, stack, st, start),
         first: mark_first(stack, st, rest),
         after: st.next as u32,
-        state: StateNo(error_state(actions, g, stack, rest)),
+        state: StateNo(error_state(g, stack, rest)),
         node: st.nodes as u32,
     }
 }
 
 fn marked(
-    actions: &[u8],
-    g: Given,
+    g: &Given,
     stack: &mut [u8],
     nodes: &mut [u8],
     records: &mut [u8],
@@ -152,13 +150,13 @@ fn marked(
     rest: usize,
     e: Entry,
 ) -> St
-    requires { Small g × Fine (length stack.old) g.depth g.count st × (32 * rest + 32 ≤ length stack.old) ×
+    requires { Small g.now × Fine (length stack.old) g.now.depth g.now.count st × (32 * rest + 32 ≤ length stack.old) ×
         (32 * st.nodes + 32 ≤ length nodes.old) × (64 * st.records + 64 ≤ length records.old) }
-    ensures { (C : Call) (scratch children : List ℕ) → Acts C actions.now g →
+    ensures { (C : Call) (scratch children : List ℕ) → Acts C g.now →
         world stack.new scratch nodes.new children records.new result ≡
         marked C (world stack.old scratch nodes.old children records.old st) rest e }
 {
-    put_record(actions, g.states, g.kinds, records, st.records, st.formed, e);
+    put_record(g.actions, g.states, g.kinds, records, st.records, st.formed, e);
     put_entry(stack, rest, e);
     put_node(nodes, st.nodes, e, 0, 0);
     grown(st, rest + 1, 0, 1, st.next, Mode::Main)
@@ -166,42 +164,36 @@ fn marked(
 
 // The entry is made before it is written: it is read off the popped symbols.
 fn mark(
-    actions: &[u8],
-    tokens: &[u8],
-    g: Given,
+    g: &Given,
     stack: &mut [u8],
     nodes: &mut [u8],
     records: &mut [u8],
     st: St,
     rest: usize,
 ) -> St
-    requires { Small g × Fine (length stack.old) g.depth g.count st × (rest + st.popped ≡ st.height) ×
+    requires { Small g.now × Fine (length stack.old) g.now.depth g.now.count st × (rest + st.popped ≡ st.height) ×
         (32 * rest + 32 ≤ length stack.old) × (32 * st.nodes + 32 ≤ length nodes.old) ×
         (64 * st.records + 64 ≤ length records.old) }
-    ensures { (C : Call) (scratch children : List ℕ) → Reads C tokens.now g →
-        Acts C actions.now g →
+    ensures { (C : Call) (scratch children : List ℕ) → Reads C g.now → Acts C g.now →
         world stack.new scratch nodes.new children records.new result ≡
         marked C (world stack.old scratch nodes.old children records.old st) rest (mark_entry C
         (world stack.old scratch nodes.old children records.old st) rest) }
 {
-    let e = mark_entry(actions, tokens, g, stack, st, rest);
-    marked(actions, g, stack, nodes, records, st, rest, e)
+    let e = mark_entry(g, stack, st, rest);
+    marked(g, stack, nodes, records, st, rest, e)
 }
 
 // "Mark: 22, 23." The depth was tested where the error state went on the simulated stack, so that a mark never gives 20.
 pub fn recover(
-    actions: &[u8],
-    tokens: &[u8],
-    g: Given,
+    g: &Given,
     stack: &mut [u8],
     nodes: &mut [u8],
     records: &mut [u8],
     st: St,
 ) -> St
-    requires { Small g × Fine (length stack.old) g.depth g.count st × (st.popped ≤ st.height) ×
-        (st.height + 2 ≤ g.depth + st.popped) }
-    ensures { (C : Call) (scratch children : List ℕ) → Reads C tokens.now g →
-        Acts C actions.now g →
+    requires { Small g.now × Fine (length stack.old) g.now.depth g.now.count st × (st.popped ≤ st.height) ×
+        (st.height + 2 ≤ g.now.depth + st.popped) }
+    ensures { (C : Call) (scratch children : List ℕ) → Reads C g.now → Acts C g.now →
         world stack.new scratch nodes.new children records.new result ≡
         recover C (world stack.old scratch nodes.old children records.old st) }
 {
@@ -212,5 +204,5 @@ pub fn recover(
     if records.len() / 64 < st.records + 1 {
         return ended(st, Answer::OutOfRecords);
     }
-    mark(actions, tokens, g, stack, nodes, records, st, rest)
+    mark(g, stack, nodes, records, st, rest)
 }

@@ -3,5 +3,5 @@
 use Rattle.driver.proofs.fail_now.Goals as goal
 
 pub returns : goal.returns
-returns c = λ C tokens scratch nodes children records m. rw (← c.formed_at.ensures C tokens scratch nodes children
-    records m) (c.fail.ensures C tokens c.args.stack.now scratch nodes children records m)
+returns c = λ C scratch nodes children records m. rw (← c.formed_at.ensures C scratch nodes children
+    records m) (c.fail.ensures C c.args.stack.now scratch nodes children records m.flag_is)

@@ -6,8 +6,8 @@ use Rattle.driver.proofs.formed_at.Goals as goal
 
 pub returns-then-st-g : goal.returns-then-st-g
 unfolding formed_at
-returns-then-st-g c = λ C tokens scratch nodes children records m. rw (has_token_law m _ c.if-st-g.true, ← c.top_at.ensures)
+returns-then-st-g c = λ C scratch nodes children records m. rw (has_token_law m _ c.if-st-g.true, ← c.top_at.ensures)
 
 pub returns : goal.returns
 unfolding formed_at
-returns c = λ C tokens scratch nodes children records m. rw (no_token_law m _ c.if-st-g.false, ← c.top_at.ensures)
+returns c = λ C scratch nodes children records m. rw (no_token_law m _ c.if-st-g.false, ← c.top_at.ensures)

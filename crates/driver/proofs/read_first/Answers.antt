@@ -11,4 +11,4 @@ returns-then-g-lt1 c = λ C m e. rw (too_deep m 1 c.if-g-lt1.true, ← e) c.ende
 
 pub returns : goal.returns
 unfolding begin
-returns c = let d : 1 ≤ c.args.g.depth = omega arith in λ C m e. rw (depth_fits_law m _ d, ← e) (c.arrive.ensures C m)
+returns c = let d : 1 ≤ c.args.g.now.depth = omega arith in λ C m e. rw (depth_fits_law m _ d, ← e) (c.arrive.ensures C m)

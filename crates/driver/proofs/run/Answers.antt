@@ -2,6 +2,8 @@
 -- Assumes nothing.
 use mathlib.Core.Path.{refl, sym, ◌∙◌}
 use native.Mathlib.Omega.{arith}
+use Rattle.std.proofs.Math.Nat.{sub-zero}
+use Prim.Native.Nat.{◌+◌, ◌-◌}
 use Rattle.moves.specs.Serving.{world}
 use Rattle.driver.specs.Running.{run_ended, run_none, going_on}
 use Rattle.driver.proofs.run.Goals as goal
@@ -16,14 +18,14 @@ loop-init c = let p = c.requires in
       records_long = refl;
       fine = p.1;
       simulable = p.2;
-      budget_left = p.3;
-      rest = λ C m n a. refl;
+      budget_left = omega arith;
+      rest = λ C m. rw sub-zero;
     }
 
 pub returns-then-is_ended : goal.returns-then-is_ended
 returns-then-is_ended c = let l = c.loop in
-    λ C m n a. sym (run_ended C (c.args.budget - l.counter) (world l.stack l.scratch l.nodes l.children l.records l.s)
-    (sym c.is_ended.ensures ∙ c.if-is_ended.true)) ∙ l.invariant.rest C m n a
+    λ C m. sym (run_ended C (c.args.budget - l.counter) (world l.stack l.scratch l.nodes l.children l.records l.s)
+    (sym c.is_ended.ensures ∙ c.if-is_ended.true)) ∙ l.invariant.rest C m
 
 pub step-s-requires : goal.step-s-requires
 step-s-requires c = let p = c.requires in
@@ -38,14 +40,13 @@ pub loop-preserved : goal.loop-preserved
 loop-preserved c = let x = c.args in
     let l = c.loop in
     let q = c.step-s in
-    going_on x.g x.actions.now x.gotos.now x.productions.now x.tokens.now x.stack.now x.scratch.now
-    x.nodes.now x.children.now x.records.now x.st x.budget l.stack l.scratch l.nodes
-    l.children l.records l.s (x.budget - l.counter) q.new.stack q.new.scratch q.new.nodes q.new.children q.new.records
-    q.result (x.budget - (l.counter + 1)) l.invariant (omega arith)
-    (sym c.is_ended.ensures ∙ c.if-is_ended.false)
+    going_on x.g.now x.stack.now x.scratch.now x.nodes.now x.children.now x.records.now x.st x.budget
+    l.stack l.scratch l.nodes l.children l.records l.s (x.budget - l.counter)
+    q.new.stack q.new.scratch q.new.nodes q.new.children q.new.records q.result (x.budget - (l.counter + 1))
+    l.invariant (omega arith) (sym c.is_ended.ensures ∙ c.if-is_ended.false)
     q.auto.stack q.auto.scratch q.auto.nodes q.auto.children q.auto.records q.ensures
 
 pub returns : goal.returns
 returns c = let l = c.loop in
-    λ C m n a. sym (run_none C (c.args.budget - l.counter) (world l.stack l.scratch l.nodes l.children l.records l.s)
-    (omega arith)) ∙ l.invariant.rest C m n a
+    λ C m. sym (run_none C (c.args.budget - l.counter) (world l.stack l.scratch l.nodes l.children l.records l.s)
+    (omega arith)) ∙ l.invariant.rest C m

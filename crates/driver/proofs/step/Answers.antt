@@ -25,9 +25,9 @@ perform-requires c = let p = c.requires in (
 
 pub returns : goal.returns
 unfolding step
-returns c = λ C m n a. rw (
+returns c = λ C s. rw (
   ← c.counted-s.ensures,
   c.decide-act.ensures.1 C c.args.nodes.now
-      c.args.children.now c.args.records.now m n a,
+      c.args.children.now c.args.records.now s,
 )
-    (c.perform.ensures C m n a)
+    (c.perform.ensures C s)

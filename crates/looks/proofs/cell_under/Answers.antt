@@ -4,4 +4,4 @@ use Rattle.moves.specs.Serving.{action_is}
 use Rattle.looks.proofs.cell_under.Goals as goal
 
 pub returns : goal.returns
-returns c = λ C m a. rw (action_is a, ← c.look_column-column.ensures C m) c.cell_in.ensures
+returns c = λ C m a. rw (action_is a, ← c.look_column.ensures C m) c.cell_in.ensures

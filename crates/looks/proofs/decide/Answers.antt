@@ -23,32 +23,32 @@ simulate_look-requires c = let p = c.requires in (
 pub returns-in-Main : goal.returns-in-Main
 returns-in-Main c = (
   c.main_look.ensures.0,
-  λ C nodes children records m n a. rw c.in-Main.is
+  λ C nodes children records s. rw c.in-Main.is
       (c.main_look.ensures.1 C c.args.scratch.now
-      nodes children records m a),
+      nodes children records s.reads s.acts),
 )
 
 pub returns-in-Column : goal.returns-in-Column
 returns-in-Column c = (
   c.column_look.ensures.0,
-  λ C nodes children records m n a. rw c.in-Column.is
-      (c.column_look.ensures.1 C c.args.scratch.now nodes children records a),
+  λ C nodes children records s. rw c.in-Column.is
+      (c.column_look.ensures.1 C c.args.scratch.now nodes children records s.acts),
 )
 
 pub returns-in-Search : goal.returns-in-Search
 returns-in-Search c = (
   c.search_look.ensures.0,
-  λ C nodes children records m n a. rw c.in-Search.is
-      (c.search_look.ensures.1 C c.args.scratch.now nodes children records a),
+  λ C nodes children records s. rw c.in-Search.is
+      (c.search_look.ensures.1 C c.args.scratch.now nodes children records s.acts),
 )
 
 pub returns-in-Simulate : goal.returns-in-Simulate
 returns-in-Simulate c = (
   c.simulate_look.ensures.0,
-  λ C nodes children records m n a. rw c.in-Simulate.is
-      (c.simulate_look.ensures.1 C nodes children records m n a),
+  λ C nodes children records s. rw c.in-Simulate.is
+      (c.simulate_look.ensures.1 C nodes children records s),
 )
 
 pub returns-in-Ended : goal.returns-in-Ended
 unfolding look on_act
-returns-in-Ended c = (tt, λ C nodes children records m n a. rw c.in-Ended.is)
+returns-in-Ended c = (tt, λ C nodes children records s. rw c.in-Ended.is)

@@ -7,8 +7,8 @@ use Rattle.looks.proofs.main_accept.Goals as goal
 
 pub returns-then-st-g : goal.returns-then-st-g
 unfolding main_reduce on_act
-returns-then-st-g c = (tt, λ C tokens scratch nodes children records m. rw (has_token_law m _ c.if-st-g.true))
+returns-then-st-g c = (tt, λ C scratch nodes children records m. rw (has_token_law m _ c.if-st-g.true))
 
 pub returns : goal.returns
 unfolding main_reduce on_act root_at
-returns c = (tt, λ C tokens scratch nodes children records m. rw (no_token_law m _ c.if-st-g.false, c.root_at.ensures))
+returns c = (tt, λ C scratch nodes children records m. rw (no_token_law m _ c.if-st-g.false, c.root_at.ensures))

@@ -11,11 +11,10 @@ returns-in-Shift c = (
   c.main_shift.ensures.0,
   λ C scratch nodes children records m a. rw (
     ← c.top_at.ensures,
-    ← c.cell_under-cell.ensures C m a,
+    ← c.cell_under.ensures C m a,
     c.in-Shift.is,
   )
-      (c.main_shift.ensures.1 C c.args.tokens.now
-      c.args.stack.now scratch nodes children
+      (c.main_shift.ensures.1 C c.args.stack.now scratch nodes children
       records m),
 )
 
@@ -25,11 +24,11 @@ returns-in-Reduce c = (
   c.main_reduce.ensures.0,
   λ C scratch nodes children records m a. rw (
     ← c.top_at.ensures,
-    ← c.cell_under-cell.ensures C m a,
+    ← c.cell_under.ensures C m a,
     c.in-Reduce.is,
     main_reduces,
   )
-      (c.main_reduce.ensures.1 C c.args.tokens.now scratch nodes children records m),
+      (c.main_reduce.ensures.1 C scratch nodes children records m),
 )
 
 pub returns-in-Error : goal.returns-in-Error
@@ -38,7 +37,7 @@ returns-in-Error c = (
   tt,
   λ C scratch nodes children records m a. rw (
     ← c.top_at.ensures,
-    ← c.cell_under-cell.ensures C m a,
+    ← c.cell_under.ensures C m a,
     c.in-Error.is,
     main_fails,
   ),

@@ -7,10 +7,10 @@ use Rattle.looks.proofs.main_reduce.Goals as goal
 pub returns-then-p-eq0 : goal.returns-then-p-eq0
 returns-then-p-eq0 c = (
   c.main_accept.ensures.0,
-  λ C tokens scratch nodes children records m. rw c.if-p-eq0.true
-      (c.main_accept.ensures.1 C tokens scratch nodes children records m),
+  λ C scratch nodes children records m. rw c.if-p-eq0.true
+      (c.main_accept.ensures.1 C scratch nodes children records m),
 )
 
 pub returns : goal.returns
 unfolding on_act
-returns c = (tt, λ C tokens scratch nodes children records m. main_more _ _ _ _ c.if-p-eq0.false)
+returns c = (tt, λ C scratch nodes children records m. main_more _ _ _ _ c.if-p-eq0.false)

@@ -7,8 +7,8 @@ use Rattle.looks.proofs.main_shift.Goals as goal
 
 pub returns-then-st-g : goal.returns-then-st-g
 unfolding main_look on_act
-returns-then-st-g c = (c.if-st-g.true, λ C tokens stack scratch nodes children records m. rw (has_token_law m _ c.if-st-g.true))
+returns-then-st-g c = (c.if-st-g.true, λ C stack scratch nodes children records m. rw (has_token_law m _ c.if-st-g.true))
 
 pub returns : goal.returns
 unfolding main_look on_act
-returns c = (tt, λ C tokens stack scratch nodes children records m. rw (no_token_law m _ c.if-st-g.false))
+returns c = (tt, λ C stack scratch nodes children records m. rw (no_token_law m _ c.if-st-g.false))

@@ -11,7 +11,7 @@ unfolding look on_act
 returns-in_default c = (
   tt,
   λ C scratch nodes children records a. rw (
-    ← c.error_cell-cell.ensures C a,
+    ← c.error_cell.ensures C a,
     no_shift _ _ _ c.in_default.not-Shift,
   ),
 )
@@ -21,5 +21,5 @@ unfolding look search_look on_act
 returns c = (
   let p = c.requires in
       let l = c.well_formed in omega arith,
-  λ C scratch nodes children records a. rw (← c.error_cell-cell.ensures C a, c.in-Shift.is),
+  λ C scratch nodes children records a. rw (← c.error_cell.ensures C a, c.in-Shift.is),
 )

@@ -9,9 +9,9 @@ pub returns-in-Shift : goal.returns-in-Shift
 unfolding look simulate_look on_act
 returns-in-Shift c = (
   c.requires.3,
-  λ C nodes children records m n a. rw (
-    ← c.sim_top.ensures,
-    ← c.cell_under-cell.ensures C m a,
+  λ C nodes children records s. rw (
+    ← c.sim_top-top.ensures,
+    ← c.cell_under.ensures C s.reads s.acts,
     c.in-Shift.is,
   ),
 )
@@ -20,21 +20,21 @@ pub returns-in-Reduce : goal.returns-in-Reduce
 unfolding look simulate_look
 returns-in-Reduce c = (
   c.simulate_reduce.ensures.0,
-  λ C nodes children records m n a. rw (
-    ← c.sim_top.ensures,
-    ← c.cell_under-cell.ensures C m a,
+  λ C nodes children records s. rw (
+    ← c.sim_top-top.ensures,
+    ← c.cell_under.ensures C s.reads s.acts,
     c.in-Reduce.is,
   )
-      (c.simulate_reduce.ensures.1 C nodes children records n),
+      (c.simulate_reduce.ensures.1 C nodes children records s.goes),
 )
 
 pub returns-in-Error : goal.returns-in-Error
 unfolding look simulate_look on_act
 returns-in-Error c = (
   search rules,
-  λ C nodes children records m n a. rw (
-    ← c.sim_top.ensures,
-    ← c.cell_under-cell.ensures C m a,
+  λ C nodes children records s. rw (
+    ← c.sim_top-top.ensures,
+    ← c.cell_under.ensures C s.reads s.acts,
     c.in-Error.is,
   ),
 )

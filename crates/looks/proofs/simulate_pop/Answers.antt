@@ -10,18 +10,15 @@ use Rattle.looks.proofs.simulate_pop.Goals as goal
 pub returns : goal.returns
 unfolding simulate_over on_act
 returns c = let p = c.requires in
-    let l = c.well_formed in
-    let a = c.less.ensures in
-    let b = c.less-base.ensures in
-    let d = c.less-pushed.ensures in (
+    let l = c.well_formed in (
       omega arith,
       λ C nodes children records n. rw (
         simulate_more _ _ _ p.2,
         size_is n,
         ← c.size-n.ensures,
-        ← a.0,
-        ← b.0,
-        ← d.0,
+        ← c.saturating_sub.ensures,
+        ← c.saturating_sub-base.ensures,
+        ← c.saturating_sub-pushed.ensures,
         ← c.sim_top-top.ensures,
         ← c.goto_state.ensures C n,
       ),
