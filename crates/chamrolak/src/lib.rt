@@ -2,14 +2,15 @@
 // for all input. The crate chamrolak_c exports them, and include/chamrolak.h has them for C.
 #![tactic(auto)]
 
-ghost use Rattle.std.specs.Prelude.{true, List, [], ◌≡◌, ℕ, ◌<◌, ◌^◌, length};
-ghost use Rattle.rules.specs.Check.{check, ok18};
+ghost use Rattle.std.specs.Prelude.{List, [], ◌≡◌, ℕ, ◌<◌, ◌^◌, length};
+ghost use Rattle.rules.specs.Tables.{Tables};
+ghost use Rattle.rules.specs.Check.{check};
 ghost use Rattle.rules.specs.Answers.{drive_reply, parse_reply};
-ghost use Rattle.moves.specs.Serving.{world};
+ghost use Rattle.moves.specs.Serving.{Serves, world};
 ghost use Rattle.refine.specs.Theorem.{ran_of};
 ghost use Rattle.tables.specs.Places.{call_tables};
 ghost use Rattle.chamrolak.specs.Exit.{returned_of, lent, limits_in, Leaves};
-ghost use Rattle.chamrolak.specs.Reached.{Counted, given_of, used};
+ghost use Rattle.chamrolak.specs.Reached.{Counted, Fitting, call_in, given_of, used};
 
 use driver::{depth_of, drive};
 use model::St;
@@ -59,33 +60,36 @@ pub fn chamrolak_check(
     in_numbers(checker::check(sizes, actions, gotos, productions, rights, items, sets))
 }
 
-// The numbers of a call, read off its slices.
-fn given(sizes: &[u8], bytes: usize, origin: u32, depth: usize) -> Given
-    ensures { result ≡ given_of sizes.now bytes origin depth }
+// A call, its numbers read off its slices.
+fn given<'a>(
+    sizes: &[u8],
+    actions: &'a [u8],
+    gotos: &'a [u8],
+    productions: &'a [u8],
+    tokens: &'a [u8],
+    origin: u32,
+    depth: usize,
+) -> Given<'a>
+    ensures { result ≡ given_of sizes.now actions.entry gotos.entry productions.entry tokens.entry origin depth }
 {
-    let states = word16(sizes, 0);
-    let kinds = word16(sizes, 2);
-    let nonterminals = word16(sizes, 4);
-    let flag = word16(sizes, 10);
     Given {
-        states: states as usize,
-        kinds: kinds as usize,
-        nonterminals: nonterminals as usize,
-        recovers: flag == 1,
-        count: bytes / 12,
+        actions,
+        gotos,
+        productions,
+        tokens,
+        states: word16(sizes, 0) as usize,
+        kinds: word16(sizes, 2) as usize,
+        nonterminals: word16(sizes, 4) as usize,
+        recovers: word16(sizes, 10) == 1,
+        count: tokens.len() / 12,
         origin,
         depth,
     }
 }
 
-// The run: the byte model's, whatever right sides, items and sets go with these tables.
+// The run: the byte model's, whatever tables the call serves.
 fn run_all(
-    sizes: &[u8],
-    actions: &[u8],
-    gotos: &[u8],
-    productions: &[u8],
-    tokens: &[u8],
-    origin: u32,
+    g: &Given,
     budget: u32,
     stack: &mut [u8],
     scratch: &mut [u8],
@@ -93,35 +97,16 @@ fn run_all(
     children: &mut [u8],
     records: &mut [u8],
 ) -> St
-    requires { ok18 tokens.now ≡ true }
-    ensures by_index { (rights items sets : List ℕ) → world stack.new scratch.new nodes.new children.new records.new result ≡ ran_of (call_tables sizes.now actions.now gotos.now productions.now rights items sets) tokens.now origin (used (lent stack.old scratch.old nodes.old children.old records.old [])) budget }
+    requires { Fitting g.now (used (lent stack.old scratch.old nodes.old children.old records.old [])) }
+    ensures by_index { (T : Tables) → Serves (call_in T g.now (used (lent stack.old scratch.old nodes.old children.old records.old []))) g.now → world stack.new scratch.new nodes.new children.new records.new result ≡ ran_of T g.now.tokens.now g.now.origin (used (lent stack.old scratch.old nodes.old children.old records.old [])) budget }
     ensures counted { Counted result }
 {
-    let depth = depth_of(stack.len(), scratch.len());
-    let g = given(sizes, tokens.len(), origin, depth);
-    drive(
-        actions,
-        gotos,
-        productions,
-        tokens,
-        g,
-        stack,
-        scratch,
-        nodes,
-        children,
-        records,
-        budget,
-    )
+    drive(g, stack, scratch, nodes, children, records, budget)
 }
 
 // The run with its report.
 fn answer_all(
-    sizes: &[u8],
-    actions: &[u8],
-    gotos: &[u8],
-    productions: &[u8],
-    tokens: &[u8],
-    origin: u32,
+    g: &Given,
     budget: u32,
     stack: &mut [u8],
     scratch: &mut [u8],
@@ -130,40 +115,24 @@ fn answer_all(
     records: &mut [u8],
     report: &mut [u8],
 ) -> Returned
-    requires { (ok18 tokens.now ≡ true) × (length report.old ≡ 64) }
-    ensures { (rights items sets : List ℕ) → Leaves (call_tables sizes.now actions.now gotos.now productions.now rights items sets) (drive_reply (call_tables sizes.now actions.now gotos.now productions.now rights items sets) tokens.now origin (limits_in (lent stack.old scratch.old nodes.old children.old records.old report.old) budget)) result (lent stack.old scratch.old nodes.old children.old records.old report.old) (lent stack.new scratch.new nodes.new children.new records.new report.new) }
+    requires { Fitting g.now (used (lent stack.old scratch.old nodes.old children.old records.old report.old)) × (length report.old ≡ 64) }
+    ensures { (T : Tables) → Serves (call_in T g.now (used (lent stack.old scratch.old nodes.old children.old records.old report.old))) g.now → Leaves T (drive_reply T g.now.tokens.now g.now.origin (limits_in (lent stack.old scratch.old nodes.old children.old records.old report.old) budget)) result (lent stack.old scratch.old nodes.old children.old records.old report.old) (lent stack.new scratch.new nodes.new children.new records.new report.new) }
 {
-    let states = word16(sizes, 0);
-    let kinds = word16(sizes, 2);
-    let st = run_all(
-        sizes,
-        actions,
-        gotos,
-        productions,
-        tokens,
-        origin,
-        budget,
-        stack,
-        scratch,
-        nodes,
-        children,
-        records,
-    );
-    let answer = st.answer;
+    let st = run_all(g, budget, stack, scratch, nodes, children, records);
     put_report(
-        actions,
-        states as usize,
-        kinds as usize,
+        g.actions,
+        g.states,
+        g.kinds,
         report,
-        answer,
+        st.answer,
         st.units as u32,
         st.nodes as u32,
         st.children as u32,
         st.records as u32,
     );
     Returned {
-        number: number_of(answer),
-        value: value_of(answer),
+        number: number_of(st.answer),
+        value: value_of(st.answer),
     }
 }
 
@@ -192,21 +161,9 @@ pub fn chamrolak_drive(
             value: 0,
         };
     }
-    answer_all(
-        sizes,
-        actions,
-        gotos,
-        productions,
-        tokens,
-        origin,
-        budget,
-        stack,
-        scratch,
-        nodes,
-        children,
-        records,
-        report,
-    )
+    let depth = depth_of(stack.len(), scratch.len());
+    let g = given(sizes, actions, gotos, productions, tokens, origin, depth);
+    answer_all(&g, budget, stack, scratch, nodes, children, records, report)
 }
 
 // The whole of document 01 in one call: the check, 18, the run.

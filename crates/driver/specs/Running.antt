@@ -1,5 +1,5 @@
 -- What `step` and `run` of the code need to know of a run: its bounds before and after a step, and that a run is its steps.
-use Rattle.std.specs.Prelude.{true, false, List, ◌≡◌, refl, ℕ, zero, suc, ◌+◌, ◌*◌, ◌-◌, ◌≤◌, ◌<◌, ◌^◌, length}
+use Rattle.std.specs.Prelude.{true, false, List, ◌≡◌, refl, ℕ, zero, suc, ◌+◌, ◌*◌, ◌≤◌, ◌<◌, ◌^◌, length}
 use Rattle.std.proofs.Common.{ap, ◌∙◌, arith}
 use Rattle.model.specs.declared.St.{St}
 use Rattle.model.specs.Model.{Call, World, counted, step, is_ended, run_from, begin}
