@@ -1,6 +1,6 @@
 -- What holds of a run's numbers at every step, and makes every index and every sum of the code safe.
 -- A symbol on the stack, and a child, is a node, and a node has cost a unit; so a budget of 32 bits bounds them all.
-use Rattle.std.specs.Prelude.{ℕ, ◌+◌, ◌*◌, ◌≤◌, ◌<◌, ◌^◌}
+use Rattle.std.specs.Prelude.{List, ℕ, ◌+◌, ◌*◌, ◌≤◌, ◌<◌, ◌^◌, length}
 use Rattle.model.specs.declared.Mode.{Mode}
 use Rattle.model.specs.declared.Mode.TheVariants.{Main, Column, Search, Simulate, Ended}
 use Rattle.model.specs.declared.St.{St}
@@ -31,6 +31,10 @@ pub record Fine (room depth count : ℕ) (s : St) : Type 0 where
   pub few : s.units < 2 ^ 32
   pub next_in : s.next ≤ count
   pub within : Within s.mode depth s.popped s.height
+
+-- of a call and a run whose stack's room has those bytes
+abbrev pub Safe : Given → List ℕ → St → Type 0
+Safe g stack s = Small g × Fine (length stack) g.depth g.count s
 
 -- of the simulated stack
 pub record Simulable (room scratch depth : ℕ) (s : St) : Type 0 where

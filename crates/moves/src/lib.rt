@@ -2,15 +2,15 @@
 // Each function is the definition of the same name of the byte model. None writes to a room.
 #![tactic(auto)]
 
-ghost use Rattle.std.specs.Prelude.{List, ◌≡◌, ℕ, ◌+◌, ◌-◌, ◌<◌, ◌^◌, eqb, length};
+ghost use Rattle.std.specs.Prelude.{List, ◌≡◌, ℕ, ◌+◌, ◌-◌, ◌<◌, ◌^◌, eqb};
 ghost use Rattle.rules.specs.Tables.{flag};
 ghost use Rattle.rules.specs.Driving.{answer_of};
 ghost use Rattle.model.specs.Model.{Call, counted, ended, read_to, failing, searching, dropped, simulating, grown, judged, arrived, fail, drop_token, further};
 ghost use Rattle.moves.specs.Serving.{Reads, world, unknown_at};
-ghost use Rattle.moves.specs.Bounds.{Small, Fine};
+ghost use Rattle.moves.specs.Bounds.{Safe};
 
 use model::{Mode, St};
-use rooms::{token_end, token_kind, top_at};
+use rooms::{token_at, top_at};
 use rules::{Answer, Formed, StateNo};
 
 // A call, but for its rooms: the tables' slices and sizes, whether the flag is 1, the tokens and how many they are, the start
@@ -35,29 +35,19 @@ pub fn counted(st: St) -> St
     requires { st.units < 2 ^ 32 }
     ensures { result ≡ counted st }
 {
-    let mut r = st;
-    r.units = st.units + 1;
-    r
+    St {
+        units: st.units + 1,
+        ..st
+    }
 }
 
 pub fn ended(st: St, answer: Answer) -> St
     ensures { result ≡ ended st answer }
 {
-    let formed = st.formed;
     St {
-        height: st.height,
-        nodes: st.nodes,
-        children: st.children,
-        records: st.records,
-        units: st.units,
-        next: st.next,
-        last: st.last,
         mode: Mode::Ended,
-        formed,
-        popped: st.popped,
-        base: st.base,
-        pushed: st.pushed,
         answer,
+        ..st
     }
 }
 
@@ -65,51 +55,27 @@ pub fn ended(st: St, answer: Answer) -> St
 pub fn read_to(st: St, last: u32) -> St
     ensures { result ≡ read_to st last }
 {
-    let mut r = st;
-    r.last = last;
-    r
+    St { last, ..st }
 }
 
+#[tactic(auto, unfolding(model::specs::Model::fail))]
 pub fn failing(st: St, formed: Formed) -> St
     ensures { result ≡ failing st formed }
 {
-    let answer = st.answer;
     St {
-        height: st.height,
-        nodes: st.nodes,
-        children: st.children,
-        records: st.records,
-        units: st.units,
-        next: st.next,
-        last: st.last,
         mode: Mode::Column,
         formed,
-        popped: st.popped,
-        base: st.base,
-        pushed: st.pushed,
-        answer,
+        ..st
     }
 }
 
 pub fn searching(st: St, popped: usize) -> St
     ensures { result ≡ searching st popped }
 {
-    let formed = st.formed;
-    let answer = st.answer;
     St {
-        height: st.height,
-        nodes: st.nodes,
-        children: st.children,
-        records: st.records,
-        units: st.units,
-        next: st.next,
-        last: st.last,
         mode: Mode::Search,
-        formed,
         popped,
-        base: st.base,
-        pushed: st.pushed,
-        answer,
+        ..st
     }
 }
 
@@ -117,44 +83,22 @@ pub fn dropped(st: St) -> St
     requires { st.next < 2 ^ 32 }
     ensures { result ≡ dropped st }
 {
-    let formed = st.formed;
-    let answer = st.answer;
     St {
-        height: st.height,
-        nodes: st.nodes,
-        children: st.children,
-        records: st.records,
-        units: st.units,
         next: st.next + 1,
-        last: st.last,
         mode: Mode::Search,
-        formed,
         popped: 0,
-        base: st.base,
-        pushed: st.pushed,
-        answer,
+        ..st
     }
 }
 
 pub fn simulating(st: St, base: usize, pushed: usize) -> St
     ensures { result ≡ simulating st base pushed }
 {
-    let formed = st.formed;
-    let answer = st.answer;
     St {
-        height: st.height,
-        nodes: st.nodes,
-        children: st.children,
-        records: st.records,
-        units: st.units,
-        next: st.next,
-        last: st.last,
         mode: Mode::Simulate,
-        formed,
-        popped: st.popped,
         base,
         pushed,
-        answer,
+        ..st
     }
 }
 
@@ -163,22 +107,14 @@ pub fn grown(st: St, height: usize, kids: usize, marks: usize, next: usize, mode
     requires { (st.nodes < 2 ^ 32) × (st.children + kids < 2 ^ 33) × (st.records < 2 ^ 32) × (marks < 2 ^ 32) }
     ensures { result ≡ grown st height kids marks next mode }
 {
-    let formed = st.formed;
-    let answer = st.answer;
     St {
         height,
         nodes: st.nodes + 1,
         children: st.children + kids,
         records: st.records + marks,
-        units: st.units,
         next,
-        last: st.last,
         mode,
-        formed,
-        popped: st.popped,
-        base: st.base,
-        pushed: st.pushed,
-        answer,
+        ..st
     }
 }
 
@@ -187,53 +123,49 @@ fn unknown(tokens: &[u8], st: St, top: u32) -> St
     requires { st.next < 2 ^ 32 }
     ensures { result ≡ unknown_at tokens.now st top }
 {
-    let next = st.next;
     ended(
-        read_to(st, token_end(tokens, next)),
-        Answer::UnrecognizedToken(next as u32, StateNo(top)),
+        read_to(st, token_at(tokens, st.next).end),
+        Answer::UnrecognizedToken(st.next as u32, StateNo(top)),
     )
 }
 
 // "Kind 65535 is the tokenizer's own error: answer 6, last location unchanged."
+#[tactic(auto, unfolding(model::specs::Model::judged))]
 fn judge(g: &Given, st: St, top: u32) -> St
     requires { st.next < 2 ^ 32 }
     ensures { (C : Call) → Reads C g.now → result ≡ judged C st top }
 {
-    let next = st.next;
-    let kinds = g.kinds;
-    let kind = token_kind(g.tokens, next) as usize;
+    let kind = token_at(g.tokens, st.next).kind as usize;
     if kind == 65535 {
-        return ended(st, Answer::TokenizerError(next as u32));
+        return ended(st, Answer::TokenizerError(st.next as u32));
     }
-    if kind < kinds {
-        return read_to(st, token_end(g.tokens, next));
+    if kind < g.kinds {
+        return read_to(st, token_at(g.tokens, st.next).end);
     }
     unknown(g.tokens, st, top)
 }
 
 // `next_token` of the Rust: the token at `next` is read, if there is one.
+#[tactic(auto, using(crate::specs::Serving::has_token_law, crate::specs::Serving::no_token_law), unfolding(model::specs::Model::arrived))]
 pub fn arrive(g: &Given, st: St, top: u32) -> St
     requires { st.next < 2 ^ 32 }
     ensures { (C : Call) → Reads C g.now → result ≡ arrived C st top }
 {
-    let next = st.next;
-    let count = g.count;
-    if next < count {
+    if st.next < g.count {
         return judge(g, st, top);
     }
     st
 }
 
 // The answer of the error that was formed, and not of one met later.
+#[tactic(auto, unfolding(rules::specs::Driving::answer_of))]
 pub fn answer_of(f: Formed) -> Answer
     ensures { result ≡ answer_of f }
 {
-    let number = f.number;
-    let top = f.top;
-    if number == 3 {
-        return Answer::UnrecognizedToken(f.at, top);
+    if f.number == 3 {
+        return Answer::UnrecognizedToken(f.at, f.top);
     }
-    Answer::UnrecognizedEnd(f.at, top)
+    Answer::UnrecognizedEnd(f.at, f.top)
 }
 
 // "Flag 0: an error cell gives 3, or 4 at the end, at once. Recovery, flag 1: form the error".
@@ -241,41 +173,36 @@ pub fn fail(g: &Given, st: St, f: Formed) -> St
     ensures { (C : Call) (stack scratch nodes children records : List ℕ) → eqb (flag C.tables) 1 ≡ g.now.recovers →
         world stack scratch nodes children records result ≡ fail C (world stack scratch nodes children records st) f }
 {
-    let recovers = g.recovers;
-    if recovers {
+    if g.recovers {
         return failing(st, f);
     }
     ended(st, answer_of(f))
 }
 
 // "No state: drop the lookahead, read on, search the same stack. At end of input with no state, answer the original error."
+#[tactic(auto, using(crate::specs::Serving::has_token_law, crate::specs::Serving::no_token_law), unfolding(model::specs::Model::drop_token))]
 fn drop_token(g: &Given, stack: &[u8], st: St) -> St
-    requires { Small g.now × Fine (length stack.now) g.now.depth g.now.count st }
+    requires { Safe g.now stack.now st }
     ensures { (C : Call) (scratch nodes children records : List ℕ) → Reads C g.now →
         world stack.now scratch nodes children records result ≡
         drop_token C (world stack.now scratch nodes children records st) }
 {
-    let next = st.next;
-    let count = g.count;
-    let height = st.height;
-    let formed = st.formed;
-    if next < count {
-        return arrive(g, dropped(st), top_at(stack, height));
+    if st.next < g.count {
+        return arrive(g, dropped(st), top_at(stack, st.height));
     }
-    ended(st, answer_of(formed))
+    ended(st, answer_of(st.formed))
 }
 
 // "If the error cell is not a shift, look further down."
+#[tactic(auto, unfolding(model::specs::Model::further))]
 pub fn further(g: &Given, stack: &[u8], st: St) -> St
-    requires { Small g.now × Fine (length stack.now) g.now.depth g.now.count st }
+    requires { Safe g.now stack.now st }
     ensures { (C : Call) (scratch nodes children records : List ℕ) → Reads C g.now →
         world stack.now scratch nodes children records result ≡
         further C (world stack.now scratch nodes children records st) }
 {
-    let popped = st.popped;
-    let height = st.height;
-    if popped < height {
-        return searching(st, popped + 1);
+    if st.popped < st.height {
+        return searching(st, st.popped + 1);
     }
     drop_token(g, stack, st)
 }

@@ -7,73 +7,68 @@ ghost use Rattle.words.specs.Words.{pick};
 ghost use Rattle.rules.specs.Tables.{target, goto, left};
 ghost use Rattle.model.specs.Model.{Call, token_entry, shifted, shift, end_below, empty_spot, production_entry, reduced, reduce_over, reduce};
 ghost use Rattle.moves.specs.Serving.{Reads, Goes, world};
-ghost use Rattle.moves.specs.Bounds.{Small, Fine};
+ghost use Rattle.rooms.specs.Lent.{Same, world_of};
+ghost use Rattle.moves.specs.Bounds.{Small, Safe};
 
 use model::{Mode, St};
 use moves::{Given, arrive, ended, grown};
-use rooms::{
-    after_at, copy_nodes, end_at, first_at, put_entry, put_node, start_at, token_end, token_start,
-    top_at,
-};
+use rooms::{Rooms, copy_nodes, put_entry, put_node, symbol_at, token_at, top_at};
 use rules::{Answer, Cell, Entry, ProdNo, StateNo, What};
 use tables::{cell_in, left, size};
 
 // "Each stack entry is a token, a mark or a production, with its span": here the lookahead.
+#[tactic(auto, unfolding(model::specs::Model::token_entry))]
 fn token_entry(g: &Given, st: St, to: StateNo) -> Entry
     requires { (st.next + 1 < 2 ^ 32) × (st.nodes < 2 ^ 32) }
     ensures { (C : Call) → Reads C g.now → result ≡ token_entry C st to }
 {
-    let next = st.next;
-    let node = st.nodes;
-    let what = What::Read(next as u32);
+    let token = token_at(g.tokens, st.next);
     Entry {
-        what,
-        start: token_start(g.tokens, next),
-        end: token_end(g.tokens, next),
-        first: next as u32,
-        after: next as u32 + 1,
+        what: What::Read(st.next as u32),
+        start: token.start,
+        end: token.end,
+        first: st.next as u32,
+        after: st.next as u32 + 1,
         state: to,
-        node: node as u32,
+        node: st.nodes as u32,
     }
 }
 
-fn shifted(g: &Given, stack: &mut [u8], nodes: &mut [u8], st: St, to: StateNo) -> St
-    requires { Small g.now × Fine (length stack.old) g.now.depth g.now.count st × (st.next < g.now.count) ×
-        (st.height + 2 ≤ g.now.depth) × (32 * st.nodes + 32 ≤ length nodes.old) }
-    ensures { (C : Call) (scratch children records : List ℕ) → Reads C g.now →
-        world stack.new scratch nodes.new children records result ≡
-        shifted C (world stack.old scratch nodes.old children records st) to }
+#[tactic(auto, unfolding(model::specs::Model::shifted, model::specs::Model::push))]
+fn shifted(g: &Given, rooms: &mut Rooms, st: St, to: StateNo) -> St
+    requires { Safe g.now rooms.old.stack.now st × (st.next < g.now.count) × (st.height + 2 ≤ g.now.depth) ×
+        (32 * st.nodes + 32 ≤ length rooms.old.nodes.now) }
+    ensures { Same rooms.old rooms.new × (rooms.new.scratch.now ≡ rooms.old.scratch.now) × (rooms.new.children.now ≡ rooms.old.children.now) ×
+        (rooms.new.records.now ≡ rooms.old.records.now) ×
+        ((C : Call) → Reads C g.now → world_of rooms.new result ≡
+        shifted C (world_of rooms.old st) to) }
 {
-    let height = st.height;
-    let node = st.nodes;
-    let next = st.next;
     let e = token_entry(g, st, to);
-    put_entry(stack, height, e);
-    put_node(nodes, node, e, 0, 0);
+    put_entry(rooms.stack, st.height, e);
+    put_node(rooms.nodes, st.nodes, e, 0, 0);
     arrive(
         g,
-        grown(st, height + 1, 0, 0, next + 1, Mode::Main),
+        grown(st, st.height + 1, 0, 0, st.next + 1, Mode::Main),
         to.0,
     )
 }
 
 // "20 depth, .., 22 nodes, .. tested in that order: .. before what that look pushes."
-pub fn shift(g: &Given, stack: &mut [u8], nodes: &mut [u8], st: St, to: StateNo) -> St
-    requires { Small g.now × Fine (length stack.old) g.now.depth g.now.count st × (st.next < g.now.count) }
-    ensures { (C : Call) (scratch children records : List ℕ) → Reads C g.now →
-        world stack.new scratch nodes.new children records result ≡
-        shift C (world stack.old scratch nodes.old children records st) to }
+#[tactic(auto, using(moves::specs::Serving::depth_fits_law, moves::specs::Serving::too_deep), unfolding(model::specs::Model::shift))]
+pub fn shift(g: &Given, rooms: &mut Rooms, st: St, to: StateNo) -> St
+    requires { Safe g.now rooms.old.stack.now st × (st.next < g.now.count) }
+    ensures { Same rooms.old rooms.new × (rooms.new.scratch.now ≡ rooms.old.scratch.now) × (rooms.new.children.now ≡ rooms.old.children.now) ×
+        (rooms.new.records.now ≡ rooms.old.records.now) ×
+        ((C : Call) → Reads C g.now → world_of rooms.new result ≡
+        shift C (world_of rooms.old st) to) }
 {
-    let height = st.height;
-    let node = st.nodes;
-    let depth = g.depth;
-    if depth < height + 2 {
+    if g.depth < st.height + 2 {
         return ended(st, Answer::OutOfDepth);
     }
-    if nodes.len() / 32 < node + 1 {
+    if rooms.nodes.len() / 32 < st.nodes + 1 {
         return ended(st, Answer::OutOfNodes);
     }
-    shifted(g, stack, nodes, st, to)
+    shifted(g, rooms, st, to)
 }
 
 // The state that a cell goes to.
@@ -82,24 +77,22 @@ pub fn target(cell: Cell) -> u32
 {
     match cell {
         Cell::Shift(s) => s.0,
-        Cell::Reduce(_) => 0,
-        Cell::Error => 0,
+        _ => 0,
     }
 }
 
 // "Goto cells, by state and nonterminal": where the left side of a production leads from a state.
+#[tactic(auto, using(moves::specs::Serving::goto_is, moves::specs::Serving::left_is))]
 pub fn goto_state(g: &Given, top: u32, p: ProdNo) -> u32
     requires { Small g.now }
-    ensures { (C : Call) → Goes C g.now → result ≡
-        target (goto C.tables top (left C.tables p.0)) }
+    ensures { (C : Call) → Goes C g.now → result ≡ target (goto C.tables top (left C.tables p.0)) }
 {
-    let states = g.states;
-    let nonterminals = g.nonterminals;
     let side = left(g.productions, p.0 as usize);
-    target(cell_in(g.gotos, states, nonterminals, top as usize, side))
+    target(cell_in(g.gotos, g.states, g.nonterminals, top as usize, side))
 }
 
 // "the top symbol's end, else the start location"
+#[tactic(auto, unfolding(model::specs::Model::end_below))]
 pub fn end_below(origin: u32, stack: &[u8], rest: usize) -> u32
     requires { 32 * rest ≤ length stack.now }
     ensures { (C : Call) → C.origin ≡ origin → result ≡ end_below C stack.now rest }
@@ -107,98 +100,46 @@ pub fn end_below(origin: u32, stack: &[u8], rest: usize) -> u32
     if rest == 0 {
         return origin;
     }
-    end_at(stack, rest - 1)
+    symbol_at(stack, rest - 1).end
 }
 
 // "An empty one sits at the lookahead's start, else the top symbol's end, else the start location (our rule)."
+#[tactic(auto, using(moves::specs::Serving::has_token_law, moves::specs::Serving::no_token_law), unfolding(model::specs::Model::empty_spot))]
 fn empty_spot(g: &Given, stack: &[u8], st: St, rest: usize) -> u32
     requires { (st.next < 2 ^ 32) × (32 * rest ≤ length stack.now) }
     ensures { (C : Call) (scratch nodes children records : List ℕ) → Reads C g.now → result ≡
         empty_spot C (world stack.now scratch nodes children records st) rest }
 {
-    let next = st.next;
-    let count = g.count;
-    let origin = g.origin;
-    if next < count {
-        return token_start(g.tokens, next);
+    if st.next < g.count {
+        return token_at(g.tokens, st.next).start;
     }
-    end_below(origin, stack, rest)
+    end_below(g.origin, stack, rest)
 }
 
-// "An empty .. production holds the lookahead's index twice".
-fn empty_production(
-    g: &Given,
-    stack: &[u8],
-    st: St,
-    p: ProdNo,
-    rest: usize,
-) -> Entry
-    requires { Small g.now × Fine (length stack.now) g.now.depth g.now.count st × (32 * rest ≤ length stack.now) }
-    ensures { (C : Call) (scratch nodes children records : List ℕ) → Reads C g.now →
-        Goes C g.now → result ≡
-        production_entry C (world stack.now scratch nodes children records st) p.0 0 rest }
-{
-    let next = st.next;
-    let node = st.nodes;
-    let what = What::Production(p.0);
-    let spot = empty_spot(g, stack, st, rest);
-    let to = StateNo(goto_state(g, top_at(stack, rest), p));
-    Entry {
-        what,
-        start: spot,
-        end: spot,
-        first: next as u32,
-        after: next as u32,
-        state: to,
-        node: node as u32,
-    }
-}
-
-// "A reduced symbol spans its first symbol's start to its last one's end."
-fn full_production(
-    g: &Given,
-    stack: &[u8],
-    st: St,
-    p: ProdNo,
-    k: usize,
-    rest: usize,
-) -> Entry
-    requires { Small g.now × Fine (length stack.now) g.now.depth g.now.count st × (rest + k ≡ st.height) × (0 < k) }
-    ensures { (C : Call) (scratch nodes children records : List ℕ) → Goes C g.now → result ≡ production_entry C (world stack.now scratch nodes children records st)
-        p.0 k rest }
-{
-    let last = st.height - 1;
-    let node = st.nodes;
-    let what = What::Production(p.0);
-    let to = StateNo(goto_state(g, top_at(stack, rest), p));
-    Entry {
-        what,
-        start: start_at(stack, rest),
-        end: end_at(stack, last),
-        first: first_at(stack, rest),
-        after: after_at(stack, last),
-        state: to,
-        node: node as u32,
-    }
-}
-
-fn production_entry(
-    g: &Given,
-    stack: &[u8],
-    st: St,
-    p: ProdNo,
-    k: usize,
-    rest: usize,
-) -> Entry
-    requires { Small g.now × Fine (length stack.now) g.now.depth g.now.count st × (rest + k ≡ st.height) }
-    ensures { (C : Call) (scratch nodes children records : List ℕ) → Reads C g.now →
-        Goes C g.now → result ≡
+// "An empty .. production holds the lookahead's index twice". "A reduced symbol spans its first symbol's start to its last one's end."
+#[tactic(auto, unfolding(model::specs::Model::production_entry))]
+fn production_entry(g: &Given, stack: &[u8], st: St, p: ProdNo, k: usize, rest: usize) -> Entry
+    requires { Safe g.now stack.now st × (rest + k ≡ st.height) }
+    ensures { (C : Call) (scratch nodes children records : List ℕ) → Reads C g.now → Goes C g.now → result ≡
         production_entry C (world stack.now scratch nodes children records st) p.0 k rest }
 {
-    if k == 0 {
-        return empty_production(g, stack, st, p, rest);
+    let (start, end, first, after) = if k == 0 {
+        let spot = empty_spot(g, stack, st, rest);
+        (spot, spot, st.next as u32, st.next as u32)
+    } else {
+        let bottom = symbol_at(stack, rest);
+        let top = symbol_at(stack, st.height - 1);
+        (bottom.start, top.end, bottom.first, top.after)
+    };
+    Entry {
+        what: What::Production(p.0),
+        start,
+        end,
+        first,
+        after,
+        state: StateNo(goto_state(g, top_at(stack, rest), p)),
+        node: st.nodes as u32,
     }
-    full_production(g, stack, st, p, k, rest)
 }
 
 // "an empty production's first child entry, are 0"
@@ -211,106 +152,56 @@ fn child_of(k: usize, at: u32) -> u32
     at
 }
 
-fn reduced(
-    g: &Given,
-    stack: &mut [u8],
-    nodes: &mut [u8],
-    children: &mut [u8],
-    st: St,
-    p: ProdNo,
-    k: usize,
-    rest: usize,
-) -> St
-    requires { Small g.now × Fine (length stack.old) g.now.depth g.now.count st × (rest + k ≡ st.height) ×
-        (rest + 2 ≤ g.now.depth) × (4 * (st.children + k) ≤ length children.old) ×
-        (32 * st.nodes + 32 ≤ length nodes.old) }
-    ensures { (C : Call) (scratch records : List ℕ) → Reads C g.now → Goes C g.now → world stack.new scratch nodes.new children.new records result ≡
-        reduced C (world stack.old scratch nodes.old children.old records st)
-        p.0 k rest }
+#[tactic(auto, unfolding(model::specs::Model::reduced, model::specs::Model::push))]
+fn reduced(g: &Given, rooms: &mut Rooms, st: St, p: ProdNo, k: usize, rest: usize) -> St
+    requires { Safe g.now rooms.old.stack.now st × (rest + k ≡ st.height) × (rest + 2 ≤ g.now.depth) ×
+        (4 * (st.children + k) ≤ length rooms.old.children.now) × (32 * st.nodes + 32 ≤ length rooms.old.nodes.now) }
+    ensures { Same rooms.old rooms.new × (rooms.new.scratch.now ≡ rooms.old.scratch.now) × (rooms.new.records.now ≡ rooms.old.records.now) ×
+        ((C : Call) → Reads C g.now → Goes C g.now → world_of rooms.new result ≡
+        reduced C (world_of rooms.old st) p.0 k rest) }
 {
-    let at = st.children;
-    let node = st.nodes;
-    let next = st.next;
-    let mode = st.mode;
+    let stack = &mut *rooms.stack;
     let e = production_entry(g, stack, st, p, k, rest);
-    copy_nodes(children, at, stack, rest, k);
+    copy_nodes(rooms.children, st.children, stack, rest, k);
     put_entry(stack, rest, e);
-    put_node(nodes, node, e, child_of(k, at as u32), k as u32);
-    grown(st, rest + 1, k, 0, next, mode)
+    put_node(
+        rooms.nodes,
+        st.nodes,
+        e,
+        child_of(k, st.children as u32),
+        k as u32,
+    );
+    grown(st, rest + 1, k, 0, st.next, st.mode)
 }
 
 // "Reduction: 20 (after its pops), 21, 22."
-fn reduce_over(
-    g: &Given,
-    stack: &mut [u8],
-    nodes: &mut [u8],
-    children: &mut [u8],
-    st: St,
-    p: ProdNo,
-    k: usize,
-    rest: usize,
-) -> St
-    requires { Small g.now × Fine (length stack.old) g.now.depth g.now.count st × (rest + k ≡ st.height) }
-    ensures { (C : Call) (scratch records : List ℕ) → Reads C g.now → Goes C g.now → world stack.new scratch nodes.new children.new records result ≡
-        reduce_over C (world stack.old scratch nodes.old children.old records st)
-        p.0 k rest }
+#[tactic(auto, using(moves::specs::Serving::depth_fits_law, moves::specs::Serving::too_deep), unfolding(model::specs::Model::reduce_over))]
+fn reduce_over(g: &Given, rooms: &mut Rooms, st: St, p: ProdNo, k: usize, rest: usize) -> St
+    requires { Safe g.now rooms.old.stack.now st × (rest + k ≡ st.height) }
+    ensures { Same rooms.old rooms.new × (rooms.new.scratch.now ≡ rooms.old.scratch.now) × (rooms.new.records.now ≡ rooms.old.records.now) ×
+        ((C : Call) → Reads C g.now → Goes C g.now → world_of rooms.new result ≡
+        reduce_over C (world_of rooms.old st) p.0 k rest) }
 {
-    let at = st.children;
-    let node = st.nodes;
-    let depth = g.depth;
-    if depth < rest + 2 {
+    if g.depth < rest + 2 {
         return ended(st, Answer::OutOfDepth);
     }
-    if children.len() / 4 < at + k {
+    if rooms.children.len() / 4 < st.children + k {
         return ended(st, Answer::OutOfChildren);
     }
-    if nodes.len() / 32 < node + 1 {
+    if rooms.nodes.len() / 32 < st.nodes + 1 {
         return ended(st, Answer::OutOfNodes);
     }
-    reduced(
-        g,
-        stack,
-        nodes,
-        children,
-        st,
-        p,
-        k,
-        rest,
-    )
-}
-
-fn least(a: usize, b: usize) -> usize
-    ensures { (result ≡ min a b) × (result ≤ b) }
-{
-    if a <= b {
-        return a;
-    }
-    b
+    reduced(g, rooms, st, p, k, rest)
 }
 
 // Popping more than there is stops at the bottom: for tables that pass the check there is always enough.
-pub fn reduce(
-    g: &Given,
-    stack: &mut [u8],
-    nodes: &mut [u8],
-    children: &mut [u8],
-    st: St,
-    p: ProdNo,
-) -> St
-    requires { Small g.now × Fine (length stack.old) g.now.depth g.now.count st }
-    ensures { (C : Call) (scratch records : List ℕ) → Reads C g.now → Goes C g.now → world stack.new scratch nodes.new children.new records result ≡
-        reduce C (world stack.old scratch nodes.old children.old records st) p.0 }
+#[tactic(auto, using(moves::specs::Serving::size_is), unfolding(model::specs::Model::reduce))]
+pub fn reduce(g: &Given, rooms: &mut Rooms, st: St, p: ProdNo) -> St
+    requires { Safe g.now rooms.old.stack.now st }
+    ensures { Same rooms.old rooms.new × (rooms.new.scratch.now ≡ rooms.old.scratch.now) × (rooms.new.records.now ≡ rooms.old.records.now) ×
+        ((C : Call) → Reads C g.now → Goes C g.now → world_of rooms.new result ≡
+        reduce C (world_of rooms.old st) p.0) }
 {
-    let height = st.height;
-    let k = least(size(g.productions, p.0 as usize), height);
-    reduce_over(
-        g,
-        stack,
-        nodes,
-        children,
-        st,
-        p,
-        k,
-        height - k,
-    )
+    let k = size(g.productions, p.0 as usize).min(st.height);
+    reduce_over(g, rooms, st, p, k, st.height - k)
 }

@@ -5,28 +5,30 @@
 ghost use Rattle.std.specs.Prelude.{◌≡◌, ◌+◌, ◌*◌, ◌-◌, ◌≤◌, ◌<◌, ◌^◌, length};
 ghost use Rattle.words.specs.Words.{word32};
 ghost use Rattle.rules.specs.Answers.{kind_of, which_of};
-ghost use Rattle.model.specs.Bytes.{put4, put8, put_entry, put_node, state_at, node_at, start_at, end_at, first_at, after_at, top_at, copy_nodes, scratch_at, sim_top};
+ghost use Rattle.rooms.specs.Put.{put_words};
+ghost use Rattle.model.specs.Bytes.{put_entry, put_node, state_at, node_at, start_at, end_at, first_at, after_at, top_at, copy_nodes, scratch_at, sim_top};
 
-use rules::{Entry, What};
+use rules::{Entry, Token, What};
 use words::{get32, put32, word32};
 
-// Four words, and eight.
-pub fn put4(s: &mut [u8], at: usize, a: u32, b: u32, c: u32, d: u32)
-    requires { at + 16 ≤ length s.old }
-    ensures { s.new ≡ put4 s.old at a b c d }
-{
-    put32(s, at, a);
-    put32(s, at + 4, b);
-    put32(s, at + 8, c);
-    put32(s, at + 12, d);
+// The rooms that a caller lends for a run.
+#[derive(Drop)]
+pub struct Rooms<'a> {
+    pub stack: &'a mut [u8],
+    pub scratch: &'a mut [u8],
+    pub nodes: &'a mut [u8],
+    pub children: &'a mut [u8],
+    pub records: &'a mut [u8],
 }
 
-pub fn put8(s: &mut [u8], at: usize, a: u32, b: u32, c: u32, d: u32, e: u32, f: u32, g: u32, h: u32)
-    requires { at + 32 ≤ length s.old }
-    ensures { s.new ≡ put8 s.old at a b c d e f g h }
+// Words, one behind the other.
+pub fn put_words<const N: usize>(s: &mut [u8], at: usize, words: [u32; N])
+    requires { at + 4 * N ≤ length s.old }
+    ensures { s.new ≡ put_words s.old at words.entry }
 {
-    put4(s, at, a, b, c, d);
-    put4(s, at + 16, e, f, g, h);
+    for (i, word) in words.iter().enumerate() {
+        put32(s, at + 4 * i, *word);
+    }
 }
 
 // "kind (0 token, 1 mark, 2 production), number (of that token, record or production)"
@@ -55,19 +57,19 @@ pub fn put_entry(s: &mut [u8], i: usize, e: Entry)
     requires { 32 * i + 32 ≤ length s.old }
     ensures { s.new ≡ put_entry s.old i e }
 {
-    let what = e.what;
-    let state = e.state;
-    put8(
+    put_words(
         s,
         32 * i,
-        state.0,
-        e.node,
-        kind_of(what),
-        which_of(what),
-        e.start,
-        e.end,
-        e.first,
-        e.after,
+        [
+            e.state.0,
+            e.node,
+            kind_of(e.what),
+            which_of(e.what),
+            e.start,
+            e.end,
+            e.first,
+            e.after,
+        ],
     );
 }
 
@@ -76,65 +78,52 @@ pub fn put_node(s: &mut [u8], i: usize, e: Entry, child: u32, count: u32)
     requires { 32 * i + 32 ≤ length s.old }
     ensures { s.new ≡ put_node s.old i e child count }
 {
-    let what = e.what;
-    put8(
+    put_words(
         s,
         32 * i,
-        kind_of(what),
-        which_of(what),
-        child,
-        count,
-        e.start,
-        e.end,
-        e.first,
-        e.after,
+        [
+            kind_of(e.what),
+            which_of(e.what),
+            child,
+            count,
+            e.start,
+            e.end,
+            e.first,
+            e.after,
+        ],
     );
 }
 
-// The words of a stack entry.
-pub fn state_at(s: &[u8], i: usize) -> u32
-    requires { 32 * i + 32 ≤ length s.now }
-    ensures { result ≡ state_at s.now i }
-{
-    get32(s, 32 * i)
+// A symbol on the stack: of its entry, the words that a run reads again.
+#[derive(Clone, Copy)]
+pub struct Symbol {
+    pub state: u32,
+    pub node: u32,
+    pub start: u32,
+    pub end: u32,
+    pub first: u32,
+    pub after: u32,
 }
 
-pub fn node_at(s: &[u8], i: usize) -> u32
+#[tactic(auto, unfolding(model::specs::Bytes::state_at, model::specs::Bytes::node_at, model::specs::Bytes::start_at, model::specs::Bytes::end_at, model::specs::Bytes::first_at, model::specs::Bytes::after_at))]
+pub fn symbol_at(s: &[u8], i: usize) -> Symbol
     requires { 32 * i + 32 ≤ length s.now }
-    ensures { result ≡ node_at s.now i }
+    ensures { (result.state ≡ state_at s.now i) × (result.node ≡ node_at s.now i) ×
+        (result.start ≡ start_at s.now i) × (result.end ≡ end_at s.now i) ×
+        (result.first ≡ first_at s.now i) × (result.after ≡ after_at s.now i) }
 {
-    get32(s, 32 * i + 4)
-}
-
-pub fn start_at(s: &[u8], i: usize) -> u32
-    requires { 32 * i + 32 ≤ length s.now }
-    ensures { result ≡ start_at s.now i }
-{
-    get32(s, 32 * i + 16)
-}
-
-pub fn end_at(s: &[u8], i: usize) -> u32
-    requires { 32 * i + 32 ≤ length s.now }
-    ensures { result ≡ end_at s.now i }
-{
-    get32(s, 32 * i + 20)
-}
-
-pub fn first_at(s: &[u8], i: usize) -> u32
-    requires { 32 * i + 32 ≤ length s.now }
-    ensures { result ≡ first_at s.now i }
-{
-    get32(s, 32 * i + 24)
-}
-
-pub fn after_at(s: &[u8], i: usize) -> u32
-    requires { 32 * i + 32 ≤ length s.now }
-    ensures { result ≡ after_at s.now i }
-{
-    get32(s, 32 * i + 28)
+    Symbol {
+        state: get32(s, 32 * i),
+        node: get32(s, 32 * i + 4),
+        start: get32(s, 32 * i + 16),
+        end: get32(s, 32 * i + 20),
+        first: get32(s, 32 * i + 24),
+        after: get32(s, 32 * i + 28),
+    }
 }
 
 // "State 0 starts": the top state of a stack of that height.
+#[tactic(auto, unfolding(model::specs::Bytes::top_at))]
 pub fn top_at(s: &[u8], height: usize) -> u32
     requires { 32 * height ≤ length s.now }
     ensures { result ≡ top_at s.now height }
@@ -142,7 +131,7 @@ pub fn top_at(s: &[u8], height: usize) -> u32
     if height == 0 {
         return 0;
     }
-    state_at(s, height - 1)
+    symbol_at(s, height - 1).state
 }
 
 // The nodes of n stack entries become child entries, in the input's order.
@@ -150,14 +139,13 @@ pub fn copy_nodes(children: &mut [u8], at: usize, stack: &[u8], from: usize, n: 
     requires { (4 * (at + n) ≤ length children.old) × (32 * (from + n) ≤ length stack.now) }
     ensures { children.new ≡ copy_nodes n children.old at stack.now from }
 {
-    let mut i: usize = 0;
-    while i < n {
-        put32(children, 4 * (at + i), node_at(stack, from + i));
-        i += 1;
+    for i in 0..n {
+        put32(children, 4 * (at + i), symbol_at(stack, from + i).node);
     }
 }
 
 // The simulated stack: a state of the scratch room, and the top, which is of the real stack where nothing is pushed.
+#[tactic(auto, unfolding(model::specs::Bytes::scratch_at))]
 pub fn scratch_at(s: &[u8], i: usize) -> u32
     requires { 4 * i + 4 ≤ length s.now }
     ensures { result ≡ scratch_at s.now i }
@@ -165,6 +153,7 @@ pub fn scratch_at(s: &[u8], i: usize) -> u32
     get32(s, 4 * i)
 }
 
+#[tactic(auto, unfolding(model::specs::Bytes::sim_top))]
 pub fn sim_top(stack: &[u8], scratch: &[u8], base: usize, pushed: usize) -> u32
     requires { (32 * base ≤ length stack.now) × (4 * pushed ≤ length scratch.now) }
     ensures { result ≡ sim_top stack.now scratch.now base pushed }
@@ -176,23 +165,14 @@ pub fn sim_top(stack: &[u8], scratch: &[u8], base: usize, pushed: usize) -> u32
 }
 
 // "A token is (kind, start, end)": past the list's end each word is 0.
-pub fn token_kind(tokens: &[u8], i: usize) -> u32
+pub fn token_at(tokens: &[u8], i: usize) -> Token
     requires { i < 2 ^ 40 }
-    ensures { result ≡ word32 tokens.now (12 * i) }
+    ensures { (result.kind ≡ word32 tokens.now (12 * i)) × (result.start ≡ word32 tokens.now (12 * i + 4)) ×
+        (result.end ≡ word32 tokens.now (12 * i + 8)) }
 {
-    word32(tokens, 12 * i)
-}
-
-pub fn token_start(tokens: &[u8], i: usize) -> u32
-    requires { i < 2 ^ 40 }
-    ensures { result ≡ word32 tokens.now (12 * i + 4) }
-{
-    word32(tokens, 12 * i + 4)
-}
-
-pub fn token_end(tokens: &[u8], i: usize) -> u32
-    requires { i < 2 ^ 40 }
-    ensures { result ≡ word32 tokens.now (12 * i + 8) }
-{
-    word32(tokens, 12 * i + 8)
+    Token {
+        kind: word32(tokens, 12 * i),
+        start: word32(tokens, 12 * i + 4),
+        end: word32(tokens, 12 * i + 8),
+    }
 }

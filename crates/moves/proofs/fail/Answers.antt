@@ -3,15 +3,15 @@
 use Rattle.model.specs.Model.{fail}
 use Rattle.moves.proofs.fail.Goals as goal
 
-pub returns-then-recovers : goal.returns-then-recovers
+pub returns-then-g : goal.returns-then-g
 unfolding fail
-returns-then-recovers c = λ C stack scratch nodes children records r. rw (r, c.if-recovers.true, c.failing.ensures)
+returns-then-g c = λ C stack scratch nodes children records r. rw (r, c.if-g.true, c.failing.ensures)
 
 pub returns : goal.returns
 unfolding fail
 returns c = λ C stack scratch nodes children records r. rw (
   r,
-  c.if-recovers.false,
+  c.if-g.false,
   c.ended.ensures,
   c.answer_of.ensures,
 )

@@ -1,0 +1,3 @@
+-- Words in a row, as the code writes them.
+pub mod Put
+pub mod Lent
