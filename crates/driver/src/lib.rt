@@ -4,8 +4,9 @@
 
 ghost use Rattle.std.specs.Prelude.{List, ◌≡◌, ℕ, ◌+◌, ◌*◌, ◌-◌, ◌/◌, ◌≤◌, ◌<◌, ◌^◌, min, length};
 ghost use Rattle.model.specs.Model.{Call, has_token, formed_at, fail, first_st, begin, step, is_ended, run_from};
+ghost use Rattle.rooms.specs.Lent.{Same, world_of};
 ghost use Rattle.moves.specs.Serving.{Reads, Serves, world};
-ghost use Rattle.moves.specs.Bounds.{Small, Fine, Simulable};
+ghost use Rattle.moves.specs.Bounds.{Small, Safe, Simulable};
 ghost use Rattle.looks.specs.Deciding.{on_act, Sure};
 
 use looks::{Act, decide};
@@ -13,7 +14,7 @@ use model::{Mode, St};
 use moves::{Given, arrive, counted, ended, fail, further, searching};
 use pushes::{reduce, shift};
 use recovery::{recover, simulate_on};
-use rooms::top_at;
+use rooms::{Rooms, top_at};
 use rules::{Answer, Formed, StateNo};
 
 // "State 0 starts": nothing is on the stack, and nothing is written.
@@ -91,29 +92,23 @@ fn fail_now(g: &Given, stack: &[u8], st: St) -> St
 // What a look decided is done. Each act has one place, so that the whole step is one function of the machine's code.
 fn perform(
     g: &Given,
-    stack: &mut [u8],
-    scratch: &mut [u8],
-    nodes: &mut [u8],
-    children: &mut [u8],
-    records: &mut [u8],
+    rooms: &mut Rooms,
     st: St,
     act: Act,
 ) -> St
-    requires { Small g.now × Fine (length stack.old) g.now.depth g.now.count st × (4 * g.now.depth ≤ length scratch.old) ×
+    requires { Safe g.now rooms.old.stack.now st × (4 * g.now.depth ≤ length rooms.old.scratch.now) ×
         Sure g.now st act }
-    ensures { (C : Call) → Serves C g.now → world stack.new scratch.new nodes.new
-        children.new records.new result ≡ on_act C (world stack.old scratch.old
-        nodes.old children.old records.old st) act }
+    ensures { Same rooms.old rooms.new × ((C : Call) → Serves C g.now → world_of rooms.new result ≡ on_act C (world_of rooms.old st) act) }
 {
     match act {
-        Act::ShiftTo(to) => shift(g, stack, nodes, st, to),
-        Act::ReduceBy(p) => reduce(g, stack, nodes, children, st, p),
+        Act::ShiftTo(to) => shift(g, rooms, st, to),
+        Act::ReduceBy(p) => reduce(g, rooms, st, p),
         Act::EndWith(answer) => ended(st, answer),
-        Act::FailNow => fail_now(g, stack, st),
+        Act::FailNow => fail_now(g, &mut *rooms.stack, st),
         Act::SearchTop => searching(st, 0),
-        Act::LookFurther => further(g, stack, st),
-        Act::SimulateFrom(base, pushed, s) => simulate_on(g, scratch, st, base, pushed, s),
-        Act::Recover => recover(g, stack, nodes, records, st),
+        Act::LookFurther => further(g, &mut *rooms.stack, st),
+        Act::SimulateFrom(base, pushed, s) => simulate_on(g, rooms.scratch, st, base, pushed, s),
+        Act::Recover => recover(g, rooms, st),
         Act::Stay => st,
     }
 }
@@ -121,22 +116,18 @@ fn perform(
 // "One unit is one look at an action cell": the look is counted, whatever comes of it.
 pub fn step(
     g: &Given,
-    stack: &mut [u8],
-    scratch: &mut [u8],
-    nodes: &mut [u8],
-    children: &mut [u8],
-    records: &mut [u8],
+    rooms: &mut Rooms,
     st: St,
 ) -> St
-    requires { Small g.now × Fine (length stack.old) g.now.depth g.now.count st × Simulable (length stack.old)
-        (length scratch.old) g.now.depth st × (st.units + 1 < 2 ^ 32) }
-    ensures { (C : Call) → Serves C g.now → world stack.new scratch.new nodes.new
-        children.new records.new result ≡ step C (world stack.old scratch.old
-        nodes.old children.old records.old st) }
+    requires { Safe g.now rooms.old.stack.now st × Simulable (length rooms.old.stack.now)
+        (length rooms.old.scratch.now) g.now.depth st × (st.units + 1 < 2 ^ 32) }
+    ensures { Same rooms.old rooms.new × ((C : Call) → Serves C g.now → world_of rooms.new result ≡ step C (world_of rooms.old st)) }
 {
     let s = counted(st);
+    let stack = &mut *rooms.stack;
+    let scratch = &mut *rooms.scratch;
     let act = decide(g, stack, scratch, s, st.mode);
-    perform(g, stack, scratch, nodes, children, records, s, act)
+    perform(g, rooms, s, act)
 }
 
 fn is_ended(mode: Mode) -> bool
@@ -148,26 +139,20 @@ fn is_ended(mode: Mode) -> bool
 // "19 is given exactly if another is needed": that is the answer that a run has while it has not ended.
 pub fn run(
     g: &Given,
-    stack: &mut [u8],
-    scratch: &mut [u8],
-    nodes: &mut [u8],
-    children: &mut [u8],
-    records: &mut [u8],
+    rooms: &mut Rooms,
     st: St,
     budget: u32,
 ) -> St
-    requires { Small g.now × Fine (length stack.old) g.now.depth g.now.count st × Simulable (length stack.old)
-        (length scratch.old) g.now.depth st × (st.units + budget < 2 ^ 32) }
-    ensures { (C : Call) → Serves C g.now → world stack.new scratch.new nodes.new
-        children.new records.new result ≡ run_from C budget (world stack.old scratch.old
-        nodes.old children.old records.old st) }
+    requires { Safe g.now rooms.old.stack.now st × Simulable (length rooms.old.stack.now)
+        (length rooms.old.scratch.now) g.now.depth st × (st.units + budget < 2 ^ 32) }
+    ensures { Same rooms.old rooms.new × ((C : Call) → Serves C g.now → world_of rooms.new result ≡ run_from C budget (world_of rooms.old st)) }
 {
     let mut s = st;
     for _ in 0..budget {
         if is_ended(s.mode) {
             return s;
         }
-        s = step(g, stack, scratch, nodes, children, records, s);
+        s = step(g, rooms, s);
     }
     s
 }
@@ -175,19 +160,13 @@ pub fn run(
 // `Parser::drive` of the Rust: a run from its beginning.
 pub fn drive(
     g: &Given,
-    stack: &mut [u8],
-    scratch: &mut [u8],
-    nodes: &mut [u8],
-    children: &mut [u8],
-    records: &mut [u8],
+    rooms: &mut Rooms,
     budget: u32,
 ) -> St
-    requires { Small g.now × (32 * g.now.depth ≤ length stack.old) × (4 * g.now.depth ≤ length scratch.old) }
-    ensures { (C : Call) → Serves C g.now → world stack.new scratch.new nodes.new
-        children.new records.new result ≡ run_from C budget (world stack.old scratch.old
-        nodes.old children.old records.old (begin C)) }
+    requires { Small g.now × (32 * g.now.depth ≤ length rooms.old.stack.now) × (4 * g.now.depth ≤ length rooms.old.scratch.now) }
+    ensures { Same rooms.old rooms.new × ((C : Call) → Serves C g.now → world_of rooms.new result ≡ run_from C budget (world_of rooms.old (begin C))) }
 {
-    run(g, stack, scratch, nodes, children, records, begin(g), budget)
+    run(g, rooms, begin(g), budget)
 }
 
 // "its limit is the shorter of stack and scratch room", in whole entries.

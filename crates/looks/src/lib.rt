@@ -10,7 +10,7 @@ ghost use Rattle.model.specs.declared.Mode.TheVariants.{Main, Column, Search, Si
 ghost use Rattle.model.specs.Bytes.{node_at};
 ghost use Rattle.model.specs.Model.{Call, has_token, look_column, main_look, main_reduce, column_reduce, simulate_reduce, look};
 ghost use Rattle.moves.specs.Serving.{Reads, Goes, Acts, Serves, world};
-ghost use Rattle.moves.specs.Bounds.{Small, Fine, Simulable, Within};
+ghost use Rattle.moves.specs.Bounds.{Small, Safe, Simulable, Within};
 ghost use Rattle.moves.specs.declared.Given.{Given};
 ghost use Rattle.looks.specs.Deciding.{on_act, Sure};
 
@@ -18,7 +18,7 @@ use model::{Mode, St};
 use moves::Given;
 use pushes::goto_state;
 use recovery::error_cell;
-use rooms::{node_at, sim_top, token_kind, top_at};
+use rooms::{sim_top, symbol_at, token_at, top_at};
 use rules::{Answer, Cell, ProdNo, StateNo};
 use tables::{cell_in, size};
 
@@ -42,7 +42,7 @@ fn look_column(g: &Given, st: St) -> usize
     ensures { (C : Call) → Reads C g.now → result ≡ look_column C st }
 {
     if st.next < g.count {
-        return token_kind(g.tokens, st.next) as usize;
+        return token_at(g.tokens, st.next).kind as usize;
     }
     g.kinds + 1
 }
@@ -64,7 +64,7 @@ fn root_at(stack: &[u8], height: usize) -> u32
     if height == 0 {
         return 0;
     }
-    node_at(stack, height - 1)
+    symbol_at(stack, height - 1).node
 }
 
 // At the end of input, `parse_eof` of the Rust, a shift is no shift.
@@ -107,7 +107,7 @@ fn main_reduce(g: &Given, stack: &[u8], st: St, p: ProdNo) -> Act
 
 // A look of the main loop.
 pub fn main_look(g: &Given, stack: &[u8], st: St) -> Act
-    requires { Small g.now × Fine (length stack.now) g.now.depth g.now.count st }
+    requires { Safe g.now stack.now st }
     ensures { Sure g.now st result × ((C : Call) (scratch nodes children records : List ℕ) → Reads C g.now →
         Acts C g.now → look C (world stack.now scratch nodes children records st) Main ≡
         on_act C (world stack.now scratch nodes children records st) result) }
@@ -134,7 +134,7 @@ fn column_reduce(stack: &[u8], st: St, p: ProdNo) -> Act
 
 // "then reduce by the error column until its cell is no reduce": only then is the stack searched.
 pub fn column_look(g: &Given, stack: &[u8], st: St) -> Act
-    requires { Small g.now × Fine (length stack.now) g.now.depth g.now.count st }
+    requires { Safe g.now stack.now st }
     ensures { Sure g.now st result × ((C : Call) (scratch nodes children records : List ℕ) → Acts C g.now →
         look C (world stack.now scratch nodes children records st) Column ≡
         on_act C (world stack.now scratch nodes children records st) result) }
@@ -148,7 +148,7 @@ pub fn column_look(g: &Given, stack: &[u8], st: St) -> Act
 // "Then look at states from the top down. If the error cell is not a shift, look further down. Otherwise simulate the lookahead
 // above that shift".
 pub fn search_look(g: &Given, stack: &[u8], st: St) -> Act
-    requires { Small g.now × Fine (length stack.now) g.now.depth g.now.count st × (st.popped ≤ st.height) }
+    requires { Safe g.now stack.now st × (st.popped ≤ st.height) }
     ensures { Sure g.now st result × ((C : Call) (scratch nodes children records : List ℕ) → Acts C g.now →
         look C (world stack.now scratch nodes children records st) Search ≡
         on_act C (world stack.now scratch nodes children records st) result) }
@@ -206,7 +206,7 @@ pub fn simulate_look(g: &Given, stack: &[u8], scratch: &[u8], st: St) -> Act
 
 // What a look decides in the mode that the run is in.
 pub fn decide(g: &Given, stack: &[u8], scratch: &[u8], st: St, mode: Mode) -> Act
-    requires { Small g.now × Fine (length stack.now) g.now.depth g.now.count st × Simulable (length stack.now)
+    requires { Safe g.now stack.now st × Simulable (length stack.now)
         (length scratch.now) g.now.depth st × Within mode g.now.depth st.popped st.height }
     ensures { Sure g.now st result × ((C : Call) (nodes children records : List ℕ) → Serves C g.now →
         look C (world stack.now scratch.now nodes children records st) mode ≡

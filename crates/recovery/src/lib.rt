@@ -7,14 +7,15 @@ ghost use Rattle.words.specs.Words.{pick};
 ghost use Rattle.rules.specs.Tables.{target, action, error_column};
 ghost use Rattle.model.specs.Bytes.{top_at, first_at};
 ghost use Rattle.model.specs.Model.{Call, push_state, simulate_on, mark_start, mark_end, mark_entry, marked, recover, has_token, token_start};
+ghost use Rattle.rooms.specs.Lent.{Same, world_of};
 ghost use Rattle.moves.specs.Serving.{Reads, Acts, world};
-ghost use Rattle.moves.specs.Bounds.{Small, Fine};
+ghost use Rattle.moves.specs.Bounds.{Small, Fine, Safe};
 
 use model::{Mode, St};
 use moves::{Given, ended, grown, simulating};
 use pushes::{end_below, target};
 use records::put_record;
-use rooms::{end_at, first_at, put_entry, put_node, start_at, token_end, token_start, top_at};
+use rooms::{Rooms, put_entry, put_node, symbol_at, token_at, top_at};
 use rules::{Answer, Cell, Entry, StateNo, What};
 use tables::cell_in;
 use words::put32;
@@ -49,7 +50,7 @@ fn start_unpopped(g: &Given, stack: &[u8], st: St, rest: usize) -> u32
 {
     let from = st.formed.from as usize;
     if from < st.next {
-        return token_start(g.tokens, from);
+        return token_at(g.tokens, from).start;
     }
     end_below(g.origin, stack, rest)
 }
@@ -63,7 +64,7 @@ fn mark_start(g: &Given, stack: &[u8], st: St, rest: usize) -> u32
     if st.popped == 0 {
         return start_unpopped(g, stack, st, rest);
     }
-    start_at(stack, rest)
+    symbol_at(stack, rest).start
 }
 
 // "else the lookahead's start; else the mark's start"
@@ -73,26 +74,25 @@ fn end_unpopped(g: &Given, st: St, start: u32) -> u32
         (token_start C st.next) start }
 {
     if st.next < g.count {
-        return token_start(g.tokens, st.next);
+        return token_at(g.tokens, st.next).start;
     }
     start
 }
 
 // "Mark end: the last dropped token's end; else, if anything popped, the last symbol's end"
 fn mark_end(g: &Given, stack: &[u8], st: St, start: u32) -> u32
-    requires { Small g.now × Fine (length stack.now) g.now.depth g.now.count st × (st.popped ≤ st.height) }
+    requires { Safe g.now stack.now st × (st.popped ≤ st.height) }
     ensures { (C : Call) (scratch nodes children records : List ℕ) (rest : ℕ) → Reads C g.now →
         start ≡ mark_start C (world stack.now scratch nodes children records st) rest → result ≡
         mark_end C (world stack.now scratch nodes children records st) rest }
 {
-    let next = st.next;
-    if (st.formed.from as usize) < next {
-        return token_end(g.tokens, next - 1);
+    if (st.formed.from as usize) < st.next {
+        return token_at(g.tokens, st.next - 1).end;
     }
     if st.popped == 0 {
         return end_unpopped(g, st, start);
     }
-    end_at(stack, st.height - 1)
+    symbol_at(stack, st.height - 1).end
 }
 
 // "Its stretch is the tokens under popped symbols, popped marks' stretches included, then the dropped ones."
@@ -103,7 +103,7 @@ fn mark_first(stack: &[u8], st: St, rest: usize) -> u32
     if st.popped == 0 {
         return st.formed.from;
     }
-    first_at(stack, rest)
+    symbol_at(stack, rest).first
 }
 
 // The error cell of the state below which so many symbols lie.
@@ -125,7 +125,7 @@ fn error_state(g: &Given, stack: &[u8], rest: usize) -> u32
 }
 
 fn mark_entry(g: &Given, stack: &[u8], st: St, rest: usize) -> Entry
-    requires { Small g.now × Fine (length stack.now) g.now.depth g.now.count st × (rest + st.popped ≡ st.height) }
+    requires { Safe g.now stack.now st × (rest + st.popped ≡ st.height) }
     ensures { (C : Call) (scratch nodes children records : List ℕ) → Reads C g.now → Acts C g.now → result ≡
         mark_entry C (world stack.now scratch nodes children records st) rest }
 {
@@ -141,68 +141,47 @@ fn mark_entry(g: &Given, stack: &[u8], st: St, rest: usize) -> Entry
     }
 }
 
-fn marked(
-    g: &Given,
-    stack: &mut [u8],
-    nodes: &mut [u8],
-    records: &mut [u8],
-    st: St,
-    rest: usize,
-    e: Entry,
-) -> St
-    requires { Small g.now × Fine (length stack.old) g.now.depth g.now.count st × (32 * rest + 32 ≤ length stack.old) ×
-        (32 * st.nodes + 32 ≤ length nodes.old) × (64 * st.records + 64 ≤ length records.old) }
-    ensures { (C : Call) (scratch children : List ℕ) → Acts C g.now →
-        world stack.new scratch nodes.new children records.new result ≡
-        marked C (world stack.old scratch nodes.old children records.old st) rest e }
+fn marked(g: &Given, rooms: &mut Rooms, st: St, rest: usize, e: Entry) -> St
+    requires { Safe g.now rooms.old.stack.now st × (32 * rest + 32 ≤ length rooms.old.stack.now) ×
+        (32 * st.nodes + 32 ≤ length rooms.old.nodes.now) × (64 * st.records + 64 ≤ length rooms.old.records.now) }
+    ensures { Same rooms.old rooms.new × (rooms.new.scratch.now ≡ rooms.old.scratch.now) ×
+        (rooms.new.children.now ≡ rooms.old.children.now) ×
+        ((C : Call) → Acts C g.now → world_of rooms.new result ≡ marked C (world_of rooms.old st) rest e) }
 {
-    put_record(g.actions, g.states, g.kinds, records, st.records, st.formed, e);
-    put_entry(stack, rest, e);
-    put_node(nodes, st.nodes, e, 0, 0);
+    put_record(g.actions, g.states, g.kinds, rooms.records, st.records, st.formed, e);
+    put_entry(rooms.stack, rest, e);
+    put_node(rooms.nodes, st.nodes, e, 0, 0);
     grown(st, rest + 1, 0, 1, st.next, Mode::Main)
 }
 
 // The entry is made before it is written: it is read off the popped symbols.
-fn mark(
-    g: &Given,
-    stack: &mut [u8],
-    nodes: &mut [u8],
-    records: &mut [u8],
-    st: St,
-    rest: usize,
-) -> St
-    requires { Small g.now × Fine (length stack.old) g.now.depth g.now.count st × (rest + st.popped ≡ st.height) ×
-        (32 * rest + 32 ≤ length stack.old) × (32 * st.nodes + 32 ≤ length nodes.old) ×
-        (64 * st.records + 64 ≤ length records.old) }
-    ensures { (C : Call) (scratch children : List ℕ) → Reads C g.now → Acts C g.now →
-        world stack.new scratch nodes.new children records.new result ≡
-        marked C (world stack.old scratch nodes.old children records.old st) rest (mark_entry C
-        (world stack.old scratch nodes.old children records.old st) rest) }
+fn mark(g: &Given, rooms: &mut Rooms, st: St, rest: usize) -> St
+    requires { Safe g.now rooms.old.stack.now st × (rest + st.popped ≡ st.height) ×
+        (32 * rest + 32 ≤ length rooms.old.stack.now) × (32 * st.nodes + 32 ≤ length rooms.old.nodes.now) ×
+        (64 * st.records + 64 ≤ length rooms.old.records.now) }
+    ensures { Same rooms.old rooms.new × (rooms.new.scratch.now ≡ rooms.old.scratch.now) ×
+        (rooms.new.children.now ≡ rooms.old.children.now) ×
+        ((C : Call) → Reads C g.now → Acts C g.now → world_of rooms.new result ≡
+        marked C (world_of rooms.old st) rest (mark_entry C (world_of rooms.old st) rest)) }
 {
+    let stack = &mut *rooms.stack;
     let e = mark_entry(g, stack, st, rest);
-    marked(g, stack, nodes, records, st, rest, e)
+    marked(g, rooms, st, rest, e)
 }
 
 // "Mark: 22, 23." The depth was tested where the error state went on the simulated stack, so that a mark never gives 20.
-pub fn recover(
-    g: &Given,
-    stack: &mut [u8],
-    nodes: &mut [u8],
-    records: &mut [u8],
-    st: St,
-) -> St
-    requires { Small g.now × Fine (length stack.old) g.now.depth g.now.count st × (st.popped ≤ st.height) ×
-        (st.height + 2 ≤ g.now.depth + st.popped) }
-    ensures { (C : Call) (scratch children : List ℕ) → Reads C g.now → Acts C g.now →
-        world stack.new scratch nodes.new children records.new result ≡
-        recover C (world stack.old scratch nodes.old children records.old st) }
+pub fn recover(g: &Given, rooms: &mut Rooms, st: St) -> St
+    requires { Safe g.now rooms.old.stack.now st × (st.popped ≤ st.height) × (st.height + 2 ≤ g.now.depth + st.popped) }
+    ensures { Same rooms.old rooms.new × (rooms.new.scratch.now ≡ rooms.old.scratch.now) ×
+        (rooms.new.children.now ≡ rooms.old.children.now) ×
+        ((C : Call) → Reads C g.now → Acts C g.now → world_of rooms.new result ≡ recover C (world_of rooms.old st)) }
 {
     let rest = st.height - st.popped;
-    if nodes.len() / 32 < st.nodes + 1 {
+    if rooms.nodes.len() / 32 < st.nodes + 1 {
         return ended(st, Answer::OutOfNodes);
     }
-    if records.len() / 64 < st.records + 1 {
+    if rooms.records.len() / 64 < st.records + 1 {
         return ended(st, Answer::OutOfRecords);
     }
-    mark(g, stack, nodes, records, st, rest)
+    mark(g, rooms, st, rest)
 }
