@@ -15,6 +15,7 @@ ghost use Rattle.chamrolak.specs.Reached.{Counted, Fitting, call_in, given_of, u
 use driver::{depth_of, drive};
 use model::St;
 use moves::Given;
+use records::Actions;
 use report::{number_of, put_report, value_of};
 use rules::Verdict;
 use shapes::tokens::tokens_fit;
@@ -119,10 +120,13 @@ fn answer_all(
     ensures { (T : Tables) → Serves (call_in T g.now (used (lent stack.old scratch.old nodes.old children.old records.old report.old))) g.now → Leaves T (drive_reply T g.now.tokens.now g.now.origin (limits_in (lent stack.old scratch.old nodes.old children.old records.old report.old) budget)) result (lent stack.old scratch.old nodes.old children.old records.old report.old) (lent stack.new scratch.new nodes.new children.new records.new report.new) }
 {
     let st = run_all(g, budget, stack, scratch, nodes, children, records);
+    let actions = Actions {
+        bytes: g.actions,
+        states: g.states,
+        kinds: g.kinds,
+    };
     put_report(
-        g.actions,
-        g.states,
-        g.kinds,
+        actions,
         report,
         st.answer,
         st.units as u32,

@@ -14,7 +14,7 @@ ghost use Rattle.moves.specs.Bounds.{Small, Fine, Safe};
 use model::{Mode, St};
 use moves::{Given, ended, grown, simulating};
 use pushes::{end_below, target};
-use records::put_record;
+use records::{Actions, put_record};
 use rooms::{Rooms, put_entry, put_node, symbol_at, token_at, top_at};
 use rules::{Answer, Cell, Entry, StateNo, What};
 use tables::cell_in;
@@ -148,7 +148,12 @@ fn marked(g: &Given, rooms: &mut Rooms, st: St, rest: usize, e: Entry) -> St
         (rooms.new.children.now ≡ rooms.old.children.now) ×
         ((C : Call) → Acts C g.now → world_of rooms.new result ≡ marked C (world_of rooms.old st) rest e) }
 {
-    put_record(g.actions, g.states, g.kinds, rooms.records, st.records, st.formed, e);
+    let actions = Actions {
+        bytes: g.actions,
+        states: g.states,
+        kinds: g.kinds,
+    };
+    put_record(actions, rooms.records, st.records, st.formed, e);
     put_entry(rooms.stack, rest, e);
     put_node(rooms.nodes, st.nodes, e, 0, 0);
     grown(st, rest + 1, 0, 1, st.next, Mode::Main)

@@ -2,14 +2,14 @@
 // "The definition gives this paper's number and values for each of the enum's cases": each function here is one of these definitions.
 #![tactic(auto)]
 
-ghost use Rattle.std.specs.Prelude.{◌≡◌, ◌+◌, ◌<◌, ◌^◌, length};
+ghost use Rattle.std.specs.Prelude.{◌≡◌, length};
 ghost use Rattle.rules.specs.Tables.{Tables};
 ghost use Rattle.rules.specs.Answers.{number_of, roots_of, places_of, expected_of, first_of, value_of, bytes_of};
 ghost use Rattle.records.specs.Expected.{Row};
 ghost use Rattle.report.specs.Report.{answer_words};
 
-use records::{expected_words, ones_of};
-use rooms::put8;
+use records::{Actions, ones_of};
+use rooms::put_words;
 use rules::Answer;
 
 // "1 accepted" to "23 records"
@@ -36,17 +36,8 @@ pub fn root_of(answer: Answer) -> u32
     ensures { result ≡ first_of (roots_of answer) }
 {
     match answer {
-        Answer::Accepted(root) => root,
-        Answer::AcceptedEarly(root, _) => root,
-        Answer::UnrecognizedToken(_, _) => 0,
-        Answer::UnrecognizedEnd(_, _) => 0,
-        Answer::ExtraToken(_) => 0,
-        Answer::TokenizerError(_) => 0,
-        Answer::OutOfUnits => 0,
-        Answer::OutOfDepth => 0,
-        Answer::OutOfChildren => 0,
-        Answer::OutOfNodes => 0,
-        Answer::OutOfRecords => 0,
+        Answer::Accepted(root) | Answer::AcceptedEarly(root, _) => root,
+        _ => 0,
     }
 }
 
@@ -55,17 +46,12 @@ pub fn place_of(answer: Answer) -> u32
     ensures { result ≡ first_of (places_of answer) }
 {
     match answer {
-        Answer::Accepted(_) => 0,
-        Answer::AcceptedEarly(_, token) => token,
-        Answer::UnrecognizedToken(token, _) => token,
-        Answer::UnrecognizedEnd(location, _) => location,
-        Answer::ExtraToken(token) => token,
-        Answer::TokenizerError(token) => token,
-        Answer::OutOfUnits => 0,
-        Answer::OutOfDepth => 0,
-        Answer::OutOfChildren => 0,
-        Answer::OutOfNodes => 0,
-        Answer::OutOfRecords => 0,
+        Answer::AcceptedEarly(_, place)
+        | Answer::UnrecognizedToken(place, _)
+        | Answer::UnrecognizedEnd(place, _)
+        | Answer::ExtraToken(place)
+        | Answer::TokenizerError(place) => place,
+        _ => 0,
     }
 }
 
@@ -74,45 +60,26 @@ pub fn value_of(answer: Answer) -> u32
     ensures { result ≡ value_of answer }
 {
     match answer {
-        Answer::Accepted(root) => root,
-        Answer::AcceptedEarly(root, _) => root,
-        Answer::UnrecognizedToken(token, _) => token,
-        Answer::UnrecognizedEnd(location, _) => location,
-        Answer::ExtraToken(token) => token,
-        Answer::TokenizerError(token) => token,
-        Answer::OutOfUnits => 0,
-        Answer::OutOfDepth => 0,
-        Answer::OutOfChildren => 0,
-        Answer::OutOfNodes => 0,
-        Answer::OutOfRecords => 0,
+        Answer::Accepted(root) | Answer::AcceptedEarly(root, _) => root,
+        _ => place_of(answer),
     }
 }
 
 // The expected kinds of answers 3 and 4, no bit for the others.
-pub fn expected_of(actions: &[u8], states: usize, kinds: usize, answer: Answer) -> [u32; 8]
-    requires { (states < 2 ^ 17) × (kinds + 2 < 2 ^ 17) }
-    ensures { (T : Tables) → Row T actions.now states kinds → result ≡ expected_of T answer }
+pub fn expected_of(actions: Actions, answer: Answer) -> [u32; 8]
+    ensures { (T : Tables) → Row T actions.entry.bytes.now actions.entry.states actions.entry.kinds → result ≡ expected_of T answer }
 {
     match answer {
-        Answer::Accepted(_) => [0; 8],
-        Answer::AcceptedEarly(_, _) => [0; 8],
-        Answer::UnrecognizedToken(_, top) => expected_words(actions, states, kinds, top.0 as usize),
-        Answer::UnrecognizedEnd(_, top) => expected_words(actions, states, kinds, top.0 as usize),
-        Answer::ExtraToken(_) => [0; 8],
-        Answer::TokenizerError(_) => [0; 8],
-        Answer::OutOfUnits => [0; 8],
-        Answer::OutOfDepth => [0; 8],
-        Answer::OutOfChildren => [0; 8],
-        Answer::OutOfNodes => [0; 8],
-        Answer::OutOfRecords => [0; 8],
+        Answer::UnrecognizedToken(_, top) | Answer::UnrecognizedEnd(_, top) => {
+            actions.expected_words(top.0 as usize)
+        }
+        _ => [0; 8],
     }
 }
 
 // The report, 16 words.
 pub fn put_report(
-    actions: &[u8],
-    states: usize,
-    kinds: usize,
+    actions: Actions,
     report: &mut [u8],
     answer: Answer,
     units: u32,
@@ -120,26 +87,23 @@ pub fn put_report(
     children: u32,
     records: u32,
 )
-    requires { (states < 2 ^ 17) × (kinds + 2 < 2 ^ 17) × (length report.old ≡ 64) }
-    ensures { (T : Tables) → Row T actions.now states kinds → report.new ≡ bytes_of (answer_words T answer units nodes children records) }
+    requires { length report.old ≡ 64 }
+    ensures { (T : Tables) → Row T actions.entry.bytes.now actions.entry.states actions.entry.kinds → report.new ≡ bytes_of (answer_words T answer units nodes children records) }
 {
-    let words = expected_of(actions, states, kinds, answer);
-    let ones = ones_of(
-        words[0], words[1], words[2], words[3], words[4], words[5], words[6], words[7],
-    );
-    put8(
+    let words = expected_of(actions, answer);
+    put_words(
         report,
         0,
-        number_of(answer),
-        root_of(answer),
-        place_of(answer),
-        ones,
-        units,
-        nodes,
-        children,
-        records,
+        [
+            number_of(answer),
+            root_of(answer),
+            place_of(answer),
+            ones_of(words),
+            units,
+            nodes,
+            children,
+            records,
+        ],
     );
-    put8(
-        report, 32, words[0], words[1], words[2], words[3], words[4], words[5], words[6], words[7],
-    );
+    put_words(report, 32, words);
 }

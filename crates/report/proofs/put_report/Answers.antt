@@ -1,8 +1,0 @@
--- `report::put_report` writes the 16 words of a report, eight and eight.
--- Assumes nothing.
-use borrow.Author.Rules.{rules}
-use Rattle.report.specs.Report.{report_bytes}
-use Rattle.report.proofs.put_report.Goals as goal
-
-pub returns : goal.returns
-returns c = λ T m. rw (c.put8-2.ensures, c.put8.ensures, c.place_of.ensures, c.root_of.ensures, c.number_of.ensures, c.ones_of-ones.ensures) (report_bytes T _ _ _ _ _ _ _ (search rules) (c.expected_of-words.ensures T m))
