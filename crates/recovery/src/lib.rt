@@ -20,6 +20,7 @@ use rules::{Answer, Cell, Entry, StateNo, What};
 use tables::cell_in;
 use words::put32;
 
+#[tactic(auto, unfolding(model::specs::Model::push_state))]
 fn push_state(scratch: &mut [u8], st: St, base: usize, pushed: usize, s: u32) -> St
     requires { 4 * pushed + 4 ≤ length scratch.old }
     ensures { (stack nodes children records : List ℕ) → world stack scratch.new nodes children records result ≡
@@ -43,6 +44,7 @@ pub fn simulate_on(g: &Given, scratch: &mut [u8], st: St, base: usize, pushed: u
 }
 
 // "else the first dropped token's; else the end of the symbol below; else the start location"
+#[tactic(auto, unfolding(model::specs::Model::mark_start, model::specs::Model::has_dropped))]
 fn start_unpopped(g: &Given, stack: &[u8], st: St, rest: usize) -> u32
     requires { (st.popped ≡ 0) × (32 * rest ≤ length stack.now) }
     ensures { (C : Call) (scratch nodes children records : List ℕ) → Reads C g.now → result ≡
@@ -56,6 +58,7 @@ fn start_unpopped(g: &Given, stack: &[u8], st: St, rest: usize) -> u32
 }
 
 // "Mark start: the first popped symbol's start"
+#[tactic(auto, unfolding(model::specs::Model::mark_start))]
 fn mark_start(g: &Given, stack: &[u8], st: St, rest: usize) -> u32
     requires { Fine (length stack.now) g.now.depth g.now.count st × (rest + st.popped ≡ st.height) }
     ensures { (C : Call) (scratch nodes children records : List ℕ) → Reads C g.now → result ≡
@@ -68,6 +71,7 @@ fn mark_start(g: &Given, stack: &[u8], st: St, rest: usize) -> u32
 }
 
 // "else the lookahead's start; else the mark's start"
+#[tactic(auto, using(moves::specs::Serving::has_token_law, moves::specs::Serving::no_token_law))]
 fn end_unpopped(g: &Given, st: St, start: u32) -> u32
     requires { st.next < 2 ^ 32 }
     ensures { (C : Call) → Reads C g.now → result ≡ pick (has_token C st)
@@ -80,6 +84,7 @@ fn end_unpopped(g: &Given, st: St, start: u32) -> u32
 }
 
 // "Mark end: the last dropped token's end; else, if anything popped, the last symbol's end"
+#[tactic(auto, unfolding(model::specs::Model::mark_end, model::specs::Model::has_dropped))]
 fn mark_end(g: &Given, stack: &[u8], st: St, start: u32) -> u32
     requires { Safe g.now stack.now st × (st.popped ≤ st.height) }
     ensures { (C : Call) (scratch nodes children records : List ℕ) (rest : ℕ) → Reads C g.now →
@@ -107,6 +112,7 @@ fn mark_first(stack: &[u8], st: St, rest: usize) -> u32
 }
 
 // The error cell of the state below which so many symbols lie.
+#[tactic(auto, using(moves::specs::Serving::action_is))]
 pub fn error_cell(g: &Given, stack: &[u8], height: usize) -> Cell
     requires { Small g.now × (32 * height ≤ length stack.now) }
     ensures { (C : Call) → Acts C g.now → result ≡ action C.tables
@@ -124,6 +130,7 @@ fn error_state(g: &Given, stack: &[u8], rest: usize) -> u32
     target(error_cell(g, stack, rest))
 }
 
+#[tactic(auto, unfolding(model::specs::Model::mark_entry))]
 fn mark_entry(g: &Given, stack: &[u8], st: St, rest: usize) -> Entry
     requires { Safe g.now stack.now st × (rest + st.popped ≡ st.height) }
     ensures { (C : Call) (scratch nodes children records : List ℕ) → Reads C g.now → Acts C g.now → result ≡
@@ -141,6 +148,7 @@ fn mark_entry(g: &Given, stack: &[u8], st: St, rest: usize) -> Entry
     }
 }
 
+#[tactic(auto, unfolding(model::specs::Model::marked, model::specs::Model::push))]
 fn marked(g: &Given, rooms: &mut Rooms, st: St, rest: usize, e: Entry) -> St
     requires { Safe g.now rooms.old.stack.now st × (32 * rest + 32 ≤ length rooms.old.stack.now) ×
         (32 * st.nodes + 32 ≤ length rooms.old.nodes.now) × (64 * st.records + 64 ≤ length rooms.old.records.now) }
@@ -175,6 +183,7 @@ fn mark(g: &Given, rooms: &mut Rooms, st: St, rest: usize) -> St
 }
 
 // "Mark: 22, 23." The depth was tested where the error state went on the simulated stack, so that a mark never gives 20.
+#[tactic(auto, unfolding(model::specs::Model::recover, model::specs::Model::place_mark))]
 pub fn recover(g: &Given, rooms: &mut Rooms, st: St) -> St
     requires { Safe g.now rooms.old.stack.now st × (st.popped ≤ st.height) × (st.height + 2 ≤ g.now.depth + st.popped) }
     ensures { Same rooms.old rooms.new × (rooms.new.scratch.now ≡ rooms.old.scratch.now) ×
