@@ -18,6 +18,7 @@ use rooms::{Rooms, top_at};
 use rules::{Answer, Formed, StateNo};
 
 // "State 0 starts": nothing is on the stack, and nothing is written.
+#[tactic(auto, unfolding(model::specs::Model::first_st))]
 fn first_st(origin: u32) -> St
     ensures { (result.next ≡ 0) × ((C : Call) → C.origin ≡ origin → result ≡ first_st C) }
 {
@@ -38,6 +39,7 @@ fn first_st(origin: u32) -> St
     }
 }
 
+#[tactic(auto, using(moves::specs::Serving::depth_fits_law, moves::specs::Serving::too_deep), unfolding(model::specs::Model::begin))]
 fn read_first(g: &Given, st: St) -> St
     requires { st.next < 2 ^ 32 }
     ensures { (C : Call) → Reads C g.now → st ≡ first_st C → result ≡ begin C }
@@ -56,6 +58,7 @@ pub fn begin(g: &Given) -> St
 }
 
 // "3 unrecognized token: token, expected. 4 unrecognized end: last location, expected."
+#[tactic(auto, using(moves::specs::Serving::has_token_law, moves::specs::Serving::no_token_law), unfolding(model::specs::Model::formed_at))]
 fn formed_at(g: &Given, stack: &[u8], st: St) -> Formed
     requires { (st.next < 2 ^ 32) × (32 * st.height ≤ length stack.now) }
     ensures { (C : Call) (scratch nodes children records : List ℕ) → Reads C g.now → result ≡
@@ -90,6 +93,7 @@ fn fail_now(g: &Given, stack: &[u8], st: St) -> St
 }
 
 // What a look decided is done. Each act has one place, so that the whole step is one function of the machine's code.
+#[tactic(auto, unfolding(looks::specs::Deciding::on_act))]
 fn perform(
     g: &Given,
     rooms: &mut Rooms,
@@ -114,6 +118,7 @@ fn perform(
 }
 
 // "One unit is one look at an action cell": the look is counted, whatever comes of it.
+#[tactic(auto, using(crate::specs::Running::fine_counted, crate::specs::Running::simulable_counted), unfolding(model::specs::Model::step))]
 pub fn step(
     g: &Given,
     rooms: &mut Rooms,

@@ -37,6 +37,7 @@ pub enum Act {
 }
 
 // The lookahead's column: "t+1 is end of input".
+#[tactic(auto, using(moves::specs::Serving::has_token_law, moves::specs::Serving::no_token_law), unfolding(model::specs::Model::look_column))]
 fn look_column(g: &Given, st: St) -> usize
     requires { Small g.now × (st.next < 2 ^ 32) }
     ensures { (C : Call) → Reads C g.now → result ≡ look_column C st }
@@ -48,6 +49,7 @@ fn look_column(g: &Given, st: St) -> usize
 }
 
 // The cell of a state under the lookahead.
+#[tactic(auto, using(moves::specs::Serving::action_is))]
 fn cell_under(g: &Given, st: St, top: u32) -> Cell
     requires { Small g.now × (st.next < 2 ^ 32) }
     ensures { (C : Call) → Reads C g.now → Acts C g.now → result ≡
@@ -68,6 +70,7 @@ fn root_at(stack: &[u8], height: usize) -> u32
 }
 
 // At the end of input, `parse_eof` of the Rust, a shift is no shift.
+#[tactic(auto, using(moves::specs::Serving::has_token_law, moves::specs::Serving::no_token_law), unfolding(model::specs::Model::main_look, crate::specs::Deciding::on_act))]
 fn main_shift(g: &Given, st: St, to: StateNo) -> Act
     ensures { Sure g.now st result × ((C : Call) (stack scratch nodes children records : List ℕ) → Reads C g.now →
         main_look C (world stack scratch nodes children records st) (has_token C st) (Shift to) ≡
@@ -80,6 +83,7 @@ fn main_shift(g: &Given, st: St, to: StateNo) -> Act
 }
 
 // "Production 0 under a lookahead token in the main loop is answer 5."
+#[tactic(auto, using(moves::specs::Serving::has_token_law, moves::specs::Serving::no_token_law), unfolding(model::specs::Model::main_reduce, model::specs::Model::root_at, crate::specs::Deciding::on_act))]
 fn main_accept(g: &Given, stack: &[u8], st: St) -> Act
     requires { (st.next < 2 ^ 32) × (32 * st.height ≤ length stack.now) }
     ensures { Sure g.now st result × ((C : Call) (scratch nodes children records : List ℕ) → Reads C g.now →
@@ -93,6 +97,7 @@ fn main_accept(g: &Given, stack: &[u8], st: St) -> Act
 }
 
 // "reducing it accepts, and builds no node"
+#[tactic(auto, using(crate::specs::Cases::main_more), unfolding(crate::specs::Deciding::on_act))]
 fn main_reduce(g: &Given, stack: &[u8], st: St, p: ProdNo) -> Act
     requires { (st.next < 2 ^ 32) × (32 * st.height ≤ length stack.now) }
     ensures { Sure g.now st result × ((C : Call) (scratch nodes children records : List ℕ) → Reads C g.now →
@@ -106,6 +111,7 @@ fn main_reduce(g: &Given, stack: &[u8], st: St, p: ProdNo) -> Act
 }
 
 // A look of the main loop.
+#[tactic(auto, using(crate::specs::Cases::main_reduces, crate::specs::Cases::main_fails), unfolding(model::specs::Model::look, crate::specs::Deciding::on_act))]
 pub fn main_look(g: &Given, stack: &[u8], st: St) -> Act
     requires { Safe g.now stack.now st }
     ensures { Sure g.now st result × ((C : Call) (scratch nodes children records : List ℕ) → Reads C g.now →
@@ -120,6 +126,7 @@ pub fn main_look(g: &Given, stack: &[u8], st: St) -> Act
 }
 
 // "If production 0 is reached there, answer 2, as the Rust's success."
+#[tactic(auto, using(crate::specs::Cases::column_more), unfolding(model::specs::Model::column_reduce, model::specs::Model::root_at, crate::specs::Deciding::on_act))]
 fn column_reduce(stack: &[u8], st: St, p: ProdNo) -> Act
     requires { 32 * st.height ≤ length stack.now }
     ensures { ((g : Given) → Sure g st result) × ((C : Call) (scratch nodes children records : List ℕ) →
@@ -133,6 +140,7 @@ fn column_reduce(stack: &[u8], st: St, p: ProdNo) -> Act
 }
 
 // "then reduce by the error column until its cell is no reduce": only then is the stack searched.
+#[tactic(auto, unfolding(model::specs::Model::look, model::specs::Model::column_look, crate::specs::Deciding::on_act))]
 pub fn column_look(g: &Given, stack: &[u8], st: St) -> Act
     requires { Safe g.now stack.now st }
     ensures { Sure g.now st result × ((C : Call) (scratch nodes children records : List ℕ) → Acts C g.now →
@@ -147,6 +155,7 @@ pub fn column_look(g: &Given, stack: &[u8], st: St) -> Act
 
 // "Then look at states from the top down. If the error cell is not a shift, look further down. Otherwise simulate the lookahead
 // above that shift".
+#[tactic(auto, unfolding(model::specs::Model::look, model::specs::Model::search_look, crate::specs::Deciding::on_act))]
 pub fn search_look(g: &Given, stack: &[u8], st: St) -> Act
     requires { Safe g.now stack.now st × (st.popped ≤ st.height) }
     ensures { Sure g.now st result × ((C : Call) (scratch nodes children records : List ℕ) → Acts C g.now →
@@ -161,6 +170,7 @@ pub fn search_look(g: &Given, stack: &[u8], st: St) -> Act
 }
 
 // A simulated reduction pops the pushed states first, and then what they stand on.
+#[tactic(auto, using(crate::specs::Cases::simulate_more, moves::specs::Serving::size_is), unfolding(model::specs::Model::simulate_over, crate::specs::Deciding::on_act))]
 fn simulate_pop(g: &Given, stack: &[u8], scratch: &[u8], st: St, p: ProdNo) -> Act
     requires { Small g.now × Simulable (length stack.now) (length scratch.now) g.now.depth st × (0 < p.0) }
     ensures { Sure g.now st result × ((C : Call) (nodes children records : List ℕ) → Goes C g.now →
@@ -175,6 +185,7 @@ fn simulate_pop(g: &Given, stack: &[u8], scratch: &[u8], st: St, p: ProdNo) -> A
 }
 
 // "production 0 yes"
+#[tactic(auto, unfolding(model::specs::Model::simulate_reduce, crate::specs::Deciding::on_act))]
 fn simulate_reduce(g: &Given, stack: &[u8], scratch: &[u8], st: St, p: ProdNo) -> Act
     requires { Small g.now × Simulable (length stack.now) (length scratch.now) g.now.depth st × Within Simulate g.now.depth
         st.popped st.height }
@@ -189,6 +200,7 @@ fn simulate_reduce(g: &Given, stack: &[u8], scratch: &[u8], st: St, p: ProdNo) -
 }
 
 // `accepts` of the Rust, a look at a time: "error cell no, shift yes, production 0 yes".
+#[tactic(auto, unfolding(model::specs::Model::look, model::specs::Model::simulate_look, crate::specs::Deciding::on_act))]
 pub fn simulate_look(g: &Given, stack: &[u8], scratch: &[u8], st: St) -> Act
     requires { Small g.now × (st.next < 2 ^ 32) × Simulable (length stack.now) (length scratch.now) g.now.depth st ×
         Within Simulate g.now.depth st.popped st.height }
@@ -205,6 +217,7 @@ pub fn simulate_look(g: &Given, stack: &[u8], scratch: &[u8], st: St) -> Act
 }
 
 // What a look decides in the mode that the run is in.
+#[tactic(auto, unfolding(model::specs::Model::look, crate::specs::Deciding::on_act))]
 pub fn decide(g: &Given, stack: &[u8], scratch: &[u8], st: St, mode: Mode) -> Act
     requires { Safe g.now stack.now st × Simulable (length stack.now)
         (length scratch.now) g.now.depth st × Within mode g.now.depth st.popped st.height }

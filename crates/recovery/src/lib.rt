@@ -31,6 +31,7 @@ fn push_state(scratch: &mut [u8], st: St, base: usize, pushed: usize, s: u32) ->
 }
 
 // "Depth counts states, real or simulated, the first included".
+#[tactic(auto, unfolding(model::specs::Model::simulate_on))]
 pub fn simulate_on(g: &Given, scratch: &mut [u8], st: St, base: usize, pushed: usize, s: u32) -> St
     requires { (4 * g.now.depth ≤ length scratch.old) × (base + pushed < 2 ^ 63) }
     ensures { (C : Call) (stack nodes children records : List ℕ) → C.depth ≡ g.now.depth →

@@ -5,5 +5,4 @@ use Rattle.driver.specs.Running.{Going}
 use Rattle.driver.proofs.run.Given as goal
 
 abbrev pub invariant-loop : goal.invariant-loop
-invariant-loop l = Going l.fn.g l.fn.stack l.fn.scratch l.fn.nodes l.fn.children l.fn.records l.fn.st l.fn.budget
-    l.stack l.scratch l.nodes l.children l.records l.s (l.fn.budget - l.counter)
+invariant-loop l = Going l.fn.g l.fn.rooms l.fn.st l.fn.budget l.rooms l.s (l.fn.budget - l.counter)

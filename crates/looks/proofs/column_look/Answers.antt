@@ -1,19 +1,7 @@
--- `looks::column_look` is a look at the error column: a reduction, or else the search begins at the top.
+-- `looks::column_look` reduces by the error column: what `column_reduce` ensures of any call.
 -- Assumes nothing.
 use Rattle.model.specs.Model.{look, column_look}
-use Rattle.looks.specs.Deciding.{on_act}
-use Rattle.looks.proofs.Laws.{no_reduce}
 use Rattle.looks.proofs.column_look.Goals as goal
-
-pub returns-in-Shift : goal.returns-in-Shift
-unfolding look on_act
-returns-in-Shift c = (
-  tt,
-  λ C scratch nodes children records a. rw (
-    ← c.error_cell.ensures C a,
-    no_reduce _ _ _ c.in-Shift.is,
-  ),
-)
 
 pub returns-in-Reduce : goal.returns-in-Reduce
 unfolding look column_look
