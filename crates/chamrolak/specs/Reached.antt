@@ -18,6 +18,7 @@ use Rattle.moves.specs.Bounds.{Small}
 use Rattle.tables.specs.Fit.{and_left, and_right}
 use Rattle.tables.specs.Places.{call_tables}
 use Rattle.moves.specs.declared.Given.{Given}
+use Rattle.rooms.specs.declared.Rooms as lending
 use Rattle.refine.specs.Tokens.{Rooms}
 use Rattle.refine.specs.Theorem.{depth_of, call_of, ran_of, reply_refines}
 use Rattle.driver.specs.Served.{served}
@@ -47,6 +48,14 @@ given_of sizes actions gotos productions tokens origin depth =
 abbrev pub used : Lent → Rooms
 used b =
     record { stack = b.stack; scratch = b.scratch; nodes = b.nodes; children = b.children; records = b.records }
+
+-- the same of the code's rooms, and with a report beside them
+abbrev pub rooms_in : lending.Rooms → Rooms
+rooms_in r =
+    record { stack = r.stack.now; scratch = r.scratch.now; nodes = r.nodes.now; children = r.children.now; records = r.records.now }
+
+abbrev pub lent_in : lending.Rooms → List ℕ → Lent
+lent_in r report = lent r.stack.now r.scratch.now r.nodes.now r.children.now r.records.now report
 
 -- a run's words in a report are those of its answer and counts
 report_same : (T : Tables) (a : Answer) (r : Run) (units nodes children records : ℕ) → counts_of r ≡ units ∷ nodes ∷ children ∷ records ∷ []

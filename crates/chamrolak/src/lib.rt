@@ -6,17 +6,19 @@ ghost use Rattle.std.specs.Prelude.{List, [], ◌≡◌, ℕ, ◌<◌, ◌^◌, 
 ghost use Rattle.rules.specs.Tables.{Tables};
 ghost use Rattle.rules.specs.Check.{check};
 ghost use Rattle.rules.specs.Answers.{drive_reply, parse_reply};
-ghost use Rattle.moves.specs.Serving.{Serves, world};
+ghost use Rattle.rooms.specs.Lent.{Same, world_of};
+ghost use Rattle.moves.specs.Serving.{Serves};
 ghost use Rattle.refine.specs.Theorem.{ran_of};
 ghost use Rattle.tables.specs.Places.{call_tables};
 ghost use Rattle.chamrolak.specs.Exit.{returned_of, lent, limits_in, Leaves};
-ghost use Rattle.chamrolak.specs.Reached.{Counted, Fitting, call_in, given_of, used};
+ghost use Rattle.chamrolak.specs.Reached.{Counted, Fitting, call_in, given_of, rooms_in, lent_in};
 
 use driver::{depth_of, drive};
 use model::St;
 use moves::Given;
 use records::Actions;
 use report::{number_of, put_report, value_of};
+use rooms::Rooms;
 use rules::Verdict;
 use shapes::tokens::tokens_fit;
 use words::word16;
@@ -89,37 +91,22 @@ fn given<'a>(
 }
 
 // The run: the byte model's, whatever tables the call serves.
-fn run_all(
-    g: &Given,
-    budget: u32,
-    stack: &mut [u8],
-    scratch: &mut [u8],
-    nodes: &mut [u8],
-    children: &mut [u8],
-    records: &mut [u8],
-) -> St
-    requires { Fitting g.now (used (lent stack.old scratch.old nodes.old children.old records.old [])) }
-    ensures by_index { (T : Tables) → Serves (call_in T g.now (used (lent stack.old scratch.old nodes.old children.old records.old []))) g.now → world stack.new scratch.new nodes.new children.new records.new result ≡ ran_of T g.now.tokens.now g.now.origin (used (lent stack.old scratch.old nodes.old children.old records.old [])) budget }
+fn run_all(g: &Given, rooms: &mut Rooms, budget: u32) -> St
+    requires { Fitting g.now (rooms_in rooms.old) }
+    ensures same { Same rooms.old rooms.new }
+    ensures by_index { (T : Tables) → Serves (call_in T g.now (rooms_in rooms.old)) g.now → world_of rooms.new result ≡ ran_of T g.now.tokens.now g.now.origin (rooms_in rooms.old) budget }
     ensures counted { Counted result }
 {
-    drive(g, stack, scratch, nodes, children, records, budget)
+    drive(g, rooms, budget)
 }
 
 // The run with its report.
-fn answer_all(
-    g: &Given,
-    budget: u32,
-    stack: &mut [u8],
-    scratch: &mut [u8],
-    nodes: &mut [u8],
-    children: &mut [u8],
-    records: &mut [u8],
-    report: &mut [u8],
-) -> Returned
-    requires { Fitting g.now (used (lent stack.old scratch.old nodes.old children.old records.old report.old)) × (length report.old ≡ 64) }
-    ensures { (T : Tables) → Serves (call_in T g.now (used (lent stack.old scratch.old nodes.old children.old records.old report.old))) g.now → Leaves T (drive_reply T g.now.tokens.now g.now.origin (limits_in (lent stack.old scratch.old nodes.old children.old records.old report.old) budget)) result (lent stack.old scratch.old nodes.old children.old records.old report.old) (lent stack.new scratch.new nodes.new children.new records.new report.new) }
+fn answer_all(g: &Given, rooms: &mut Rooms, report: &mut [u8], budget: u32) -> Returned
+    requires { Fitting g.now (rooms_in rooms.old) × (length report.old ≡ 64) }
+    ensures same { Same rooms.old rooms.new }
+    ensures answer { (T : Tables) → Serves (call_in T g.now (rooms_in rooms.old)) g.now → Leaves T (drive_reply T g.now.tokens.now g.now.origin (limits_in (lent_in rooms.old report.old) budget)) result (lent_in rooms.old report.old) (lent_in rooms.new report.new) }
 {
-    let st = run_all(g, budget, stack, scratch, nodes, children, records);
+    let st = run_all(g, rooms, budget);
     let actions = Actions {
         bytes: g.actions,
         states: g.states,
@@ -167,7 +154,14 @@ pub fn chamrolak_drive(
     }
     let depth = depth_of(stack.len(), scratch.len());
     let g = given(sizes, actions, gotos, productions, tokens, origin, depth);
-    answer_all(&g, budget, stack, scratch, nodes, children, records, report)
+    let mut rooms = Rooms {
+        stack,
+        scratch,
+        nodes,
+        children,
+        records,
+    };
+    answer_all(&g, &mut rooms, report, budget)
 }
 
 // The whole of document 01 in one call: the check, 18, the run.

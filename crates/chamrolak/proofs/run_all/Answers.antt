@@ -1,9 +1,8 @@
 -- `chamrolak::run_all` is the byte model's run: the call serves the model's, and meets what the driver asks.
 -- Assumes nothing.
 use native.Mathlib.Omega.{arith}
-use Rattle.refine.specs.Tokens.{Rooms}
 use Rattle.driver.specs.Served
-use Rattle.chamrolak.specs.Reached.{call_in, own, counted}
+use Rattle.chamrolak.specs.Reached.{rooms_in, call_in, own, counted}
 use Rattle.chamrolak.proofs.run_all.Goals as goal
 
 pub drive-requires : goal.drive-requires
@@ -12,11 +11,11 @@ drive-requires c = let f = c.requires in (f.small, omega (arith, f.depth_is), om
 pub returns : goal.returns
 returns c = let x = c.args in
     let f = c.requires in
-    let b : Rooms = record { stack = x.stack.now; scratch = x.scratch.now; nodes = x.nodes.now; children = x.children.now; records = x.records.now } in
+    let b = rooms_in x.rooms.now in
     let g = x.g.now in
-    let T = (Served.call_of g).tables in
     record {
-      by_index = λ T s. c.drive.ensures (call_in T g b) s;
-      counted = counted T g.tokens.now g.origin x.budget b _ f.tokens_fit f.bytes f.origin_in c.ranges.budget.fits
-          (c.drive.ensures (call_in T g b) (own g b f));
+      same = c.drive.ensures.0;
+      by_index = λ T s. c.drive.ensures.1 (call_in T g b) s;
+      counted = counted (Served.call_of g).tables g.tokens.now g.origin x.budget b _ f.tokens_fit f.bytes f.origin_in
+          c.ranges.budget.fits (c.drive.ensures.1 (call_in (Served.call_of g).tables g b) (own g b f));
     }
