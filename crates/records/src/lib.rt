@@ -14,8 +14,7 @@ use rules::{Cell, Entry, Formed};
 use std::array;
 use tables::cell_in;
 
-// What is read of a call's tables to say which kinds were expected: the action cells, how many states have a row there, and how many
-// user kinds a column.
+// What says which kinds are expected: the action cells, how many states have a row there, and how many columns of a row are user kinds.
 #[derive(Clone, Copy)]
 pub struct Actions<'a> {
     pub bytes: &'a [u8],
@@ -39,7 +38,7 @@ fn bits_in(kinds: usize, j: usize) -> usize
     kinds.saturating_sub(32 * j).min(32)
 }
 
-impl<'a> Actions<'a> {
+impl Actions<'_> {
     // "Expected kinds: user kinds whose cell in the top state is not 0."
     pub fn expects(self, state: usize, kind: usize) -> bool
         ensures { result ≡ expects_in self.entry.bytes.now self.entry.states self.entry.kinds state kind }
