@@ -1,14 +1,14 @@
 -- The code holds a call as slices and numbers: here is when these serve a call of the byte model. A contract speaks of every call
 -- that they serve, so that it says nothing of the slices that a run does not read (right sides, items, sets).
-use Rattle.std.specs.Prelude.{true, false, List, ◌≡◌, ℕ, ◌+◌, ◌*◌, ◌<◌, ◌≤◌, eqb, ltb, leb}
+use Rattle.std.specs.Prelude.{Option, None, Some, true, false, List, ◌≡◌, ℕ, ◌+◌, ◌*◌, ◌<◌, ◌≤◌, eqb, ltb, leb}
 use Rattle.std.proofs.Common.{lt-ltb, le-ltb, le-leb}
 use Rattle.std.proofs.lemmas.Bool.{lt-leb}
-use Rattle.words.specs.Words.{word16, word32}
-use Rattle.rules.specs.declared.Answer.TheVariants.{UnrecognizedToken}
+use Rattle.words.specs.Words.{word16}
+use Rattle.rules.specs.declared.Token.{Token}
 use Rattle.rules.specs.Tables.{states, kinds, nonterminals, flag, action, goto, left, size}
 use Rattle.tables.specs.Readers.{cell_in}
 use Rattle.model.specs.declared.St.{St}
-use Rattle.model.specs.Model.{Call, World, ended, read_to}
+use Rattle.model.specs.Model.{Call, World, has_token, token_kind, token_start, token_end}
 use Rattle.moves.specs.declared.Given.{Given}
 
 -- tokens, and the call's own numbers
@@ -74,12 +74,13 @@ pub size_is : {C : Call} {g : Given} → Goes C g → (p : ℕ) → size C.table
 unfolding size
 size_is m p = rw m.productions_are
 
+-- the lookahead as the code has it: none at the end of input, and else the token's three words
+abbrev pub Ahead : Call → St → Option Token → Type 0
+Ahead C s None = has_token C s ≡ false
+Ahead C s (Some t) = (has_token C s ≡ true) × (t.kind ≡ token_kind C s.next) × (t.start ≡ token_start C s.next) ×
+    (t.end ≡ token_end C s.next)
+
 -- a world, its rooms in the order in which they are lent
 abbrev pub world : List ℕ → List ℕ → List ℕ → List ℕ → List ℕ → St → World
 world stack scratch nodes children records st =
     record { stack = stack; scratch = scratch; nodes = nodes; children = children; records = records; st = st }
-
--- the end at a token of a kind that is not read
-abbrev pub unknown_at : List ℕ → St → ℕ → St
-unknown_at tokens s top =
-    ended (read_to s (word32 tokens (12 * s.next + 8))) (UnrecognizedToken s.next (record { 0 = top }))

@@ -1,17 +1,18 @@
 // What a look does to the numbers of a run: it is counted, it ends the run, it goes on in another mode, it reads a token.
-// Each function is the definition of the same name of the byte model. None writes to a room.
+// Each function is the definition of the same name of the byte model. None writes to a room. The functions of a state are no methods:
+// an `impl St` stands in crate `model` only, which has no functions, and the must-fail edits of this crate hold them here.
 #![tactic(auto)]
 
-ghost use Rattle.std.specs.Prelude.{List, ◌≡◌, ℕ, ◌+◌, ◌-◌, ◌<◌, ◌^◌, eqb};
+ghost use Rattle.std.specs.Prelude.{Some, List, ◌≡◌, ℕ, ◌+◌, ◌<◌, ◌^◌, eqb};
 ghost use Rattle.rules.specs.Tables.{flag};
 ghost use Rattle.rules.specs.Driving.{answer_of};
 ghost use Rattle.model.specs.Model.{Call, counted, ended, read_to, failing, searching, dropped, simulating, grown, judged, arrived, fail, drop_token, further};
-ghost use Rattle.moves.specs.Serving.{Reads, world, unknown_at};
+ghost use Rattle.moves.specs.Serving.{Reads, Ahead, world};
 ghost use Rattle.moves.specs.Bounds.{Safe};
 
 use model::{Mode, St};
 use rooms::{token_at, top_at};
-use rules::{Answer, Formed, StateNo};
+use rules::{Answer, Formed, StateNo, Token};
 
 // A call, but for its rooms: the tables' slices and sizes, whether the flag is 1, the tokens and how many they are, the start
 // location and the depth that fits.
@@ -118,54 +119,60 @@ pub fn grown(st: St, height: usize, kids: usize, marks: usize, next: usize, mode
     }
 }
 
-// "A kind not below t ends at once with answer 3, with no recovery, even while dropping."
-fn unknown(tokens: &[u8], st: St, top: u32) -> St
+// The token at `next`, if there is one.
+#[tactic(auto, using(crate::specs::Serving::has_token_law, crate::specs::Serving::no_token_law))]
+pub fn lookahead(g: &Given, st: St) -> Option<Token>
     requires { st.next < 2 ^ 32 }
-    ensures { result ≡ unknown_at tokens.now st top }
+    ensures { (C : Call) → Reads C g.now → Ahead C st result }
 {
+    if st.next < g.count {
+        return Some(token_at(g.tokens, st.next));
+    }
+    None
+}
+
+// "Kind 65535 is the tokenizer's own error: answer 6, last location unchanged." "A kind not below t ends at once with answer 3, with
+// no recovery, even while dropping."
+#[tactic(auto, unfolding(model::specs::Model::judged))]
+fn judge(g: &Given, st: St, token: Token, top: u32) -> St
+    requires { st.next < 2 ^ 32 }
+    ensures { (C : Call) → Reads C g.now → Ahead C st (Some token) → result ≡ judged C st top }
+{
+    if token.kind == 65535 {
+        return ended(st, Answer::TokenizerError(st.next as u32));
+    }
+    let read = read_to(st, token.end);
+    if (token.kind as usize) < g.kinds {
+        return read;
+    }
     ended(
-        read_to(st, token_at(tokens, st.next).end),
+        read,
         Answer::UnrecognizedToken(st.next as u32, StateNo(top)),
     )
 }
 
-// "Kind 65535 is the tokenizer's own error: answer 6, last location unchanged."
-#[tactic(auto, unfolding(model::specs::Model::judged))]
-fn judge(g: &Given, st: St, top: u32) -> St
-    requires { st.next < 2 ^ 32 }
-    ensures { (C : Call) → Reads C g.now → result ≡ judged C st top }
-{
-    let kind = token_at(g.tokens, st.next).kind as usize;
-    if kind == 65535 {
-        return ended(st, Answer::TokenizerError(st.next as u32));
-    }
-    if kind < g.kinds {
-        return read_to(st, token_at(g.tokens, st.next).end);
-    }
-    unknown(g.tokens, st, top)
-}
-
 // `next_token` of the Rust: the token at `next` is read, if there is one.
-#[tactic(auto, using(crate::specs::Serving::has_token_law, crate::specs::Serving::no_token_law), unfolding(model::specs::Model::arrived))]
+#[tactic(auto, unfolding(model::specs::Model::arrived))]
 pub fn arrive(g: &Given, st: St, top: u32) -> St
     requires { st.next < 2 ^ 32 }
     ensures { (C : Call) → Reads C g.now → result ≡ arrived C st top }
 {
-    if st.next < g.count {
-        return judge(g, st, top);
+    match lookahead(g, st) {
+        Some(token) => judge(g, st, token, top),
+        None => st,
     }
-    st
 }
 
-// The answer of the error that was formed, and not of one met later.
+// The answer of the error that was formed, and not of one met later. `number` is 3 or 4, no enum: definition `answer_of` of `rules` and
+// the record's first word in the byte model have it so.
 #[tactic(auto, unfolding(rules::specs::Driving::answer_of))]
 pub fn answer_of(f: Formed) -> Answer
     ensures { result ≡ answer_of f }
 {
-    if f.number == 3 {
-        return Answer::UnrecognizedToken(f.at, f.top);
+    match f.number {
+        3 => Answer::UnrecognizedToken(f.at, f.top),
+        _ => Answer::UnrecognizedEnd(f.at, f.top),
     }
-    Answer::UnrecognizedEnd(f.at, f.top)
 }
 
 // "Flag 0: an error cell gives 3, or 4 at the end, at once. Recovery, flag 1: form the error".

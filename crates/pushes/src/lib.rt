@@ -2,8 +2,7 @@
 // Each function is the definition of the same name of the byte model. A step that a limit stops writes nothing.
 #![tactic(auto)]
 
-ghost use Rattle.std.specs.Prelude.{List, ◌≡◌, ℕ, ◌+◌, ◌*◌, ◌-◌, ◌≤◌, ◌<◌, ◌^◌, min, eqb, length};
-ghost use Rattle.words.specs.Words.{pick};
+ghost use Rattle.std.specs.Prelude.{List, ◌≡◌, ℕ, ◌+◌, ◌*◌, ◌≤◌, ◌<◌, ◌^◌, length};
 ghost use Rattle.rules.specs.Tables.{target, goto, left};
 ghost use Rattle.model.specs.Model.{Call, token_entry, shifted, shift, end_below, empty_spot, production_entry, reduced, reduce_over, reduce};
 ghost use Rattle.moves.specs.Serving.{Reads, Goes, world};
@@ -11,7 +10,7 @@ ghost use Rattle.rooms.specs.Lent.{Same, world_of};
 ghost use Rattle.moves.specs.Bounds.{Small, Safe};
 
 use model::{Mode, St};
-use moves::{Given, arrive, ended, grown};
+use moves::{Given, arrive, ended, grown, lookahead};
 use rooms::{Rooms, copy_nodes, put_entry, put_node, symbol_at, token_at, top_at};
 use rules::{Answer, Cell, Entry, ProdNo, StateNo, What};
 use tables::{cell_in, left, size};
@@ -38,10 +37,10 @@ fn token_entry(g: &Given, st: St, to: StateNo) -> Entry
 fn shifted(g: &Given, rooms: &mut Rooms, st: St, to: StateNo) -> St
     requires { Safe g.now rooms.old.stack.now st × (st.next < g.now.count) × (st.height + 2 ≤ g.now.depth) ×
         (32 * st.nodes + 32 ≤ length rooms.old.nodes.now) }
-    ensures { Same rooms.old rooms.new × (rooms.new.scratch.now ≡ rooms.old.scratch.now) × (rooms.new.children.now ≡ rooms.old.children.now) ×
-        (rooms.new.records.now ≡ rooms.old.records.now) ×
-        ((C : Call) → Reads C g.now → world_of rooms.new result ≡
-        shifted C (world_of rooms.old st) to) }
+    ensures same { Same rooms.old rooms.new }
+    ensures untouched { (rooms.new.scratch.now ≡ rooms.old.scratch.now) ×
+        (rooms.new.children.now ≡ rooms.old.children.now) × (rooms.new.records.now ≡ rooms.old.records.now) }
+    ensures shifts { (C : Call) → Reads C g.now → world_of rooms.new result ≡ shifted C (world_of rooms.old st) to }
 {
     let e = token_entry(g, st, to);
     put_entry(rooms.stack, st.height, e);
@@ -57,10 +56,10 @@ fn shifted(g: &Given, rooms: &mut Rooms, st: St, to: StateNo) -> St
 #[tactic(auto, using(moves::specs::Serving::depth_fits_law, moves::specs::Serving::too_deep), unfolding(model::specs::Model::shift))]
 pub fn shift(g: &Given, rooms: &mut Rooms, st: St, to: StateNo) -> St
     requires { Safe g.now rooms.old.stack.now st × (st.next < g.now.count) }
-    ensures { Same rooms.old rooms.new × (rooms.new.scratch.now ≡ rooms.old.scratch.now) × (rooms.new.children.now ≡ rooms.old.children.now) ×
-        (rooms.new.records.now ≡ rooms.old.records.now) ×
-        ((C : Call) → Reads C g.now → world_of rooms.new result ≡
-        shift C (world_of rooms.old st) to) }
+    ensures same { Same rooms.old rooms.new }
+    ensures untouched { (rooms.new.scratch.now ≡ rooms.old.scratch.now) ×
+        (rooms.new.children.now ≡ rooms.old.children.now) × (rooms.new.records.now ≡ rooms.old.records.now) }
+    ensures shifts { (C : Call) → Reads C g.now → world_of rooms.new result ≡ shift C (world_of rooms.old st) to }
 {
     if g.depth < st.height + 2 {
         return ended(st, Answer::OutOfDepth);
@@ -104,19 +103,20 @@ pub fn end_below(origin: u32, stack: &[u8], rest: usize) -> u32
 }
 
 // "An empty one sits at the lookahead's start, else the top symbol's end, else the start location (our rule)."
-#[tactic(auto, using(moves::specs::Serving::has_token_law, moves::specs::Serving::no_token_law), unfolding(model::specs::Model::empty_spot))]
+#[tactic(auto, unfolding(model::specs::Model::empty_spot))]
 fn empty_spot(g: &Given, stack: &[u8], st: St, rest: usize) -> u32
     requires { (st.next < 2 ^ 32) × (32 * rest ≤ length stack.now) }
     ensures { (C : Call) (scratch nodes children records : List ℕ) → Reads C g.now → result ≡
         empty_spot C (world stack.now scratch nodes children records st) rest }
 {
-    if st.next < g.count {
-        return token_at(g.tokens, st.next).start;
+    match lookahead(g, st) {
+        Some(token) => token.start,
+        None => end_below(g.origin, stack, rest),
     }
-    end_below(g.origin, stack, rest)
 }
 
-// "An empty .. production holds the lookahead's index twice". "A reduced symbol spans its first symbol's start to its last one's end."
+// "An empty .. production holds the lookahead's index twice".
+// "A reduced symbol spans its first symbol's start to its last one's end."
 #[tactic(auto, unfolding(model::specs::Model::production_entry))]
 fn production_entry(g: &Given, stack: &[u8], st: St, p: ProdNo, k: usize, rest: usize) -> Entry
     requires { Safe g.now stack.now st × (rest + k ≡ st.height) }
@@ -143,34 +143,21 @@ fn production_entry(g: &Given, stack: &[u8], st: St, p: ProdNo, k: usize, rest: 
 }
 
 // "an empty production's first child entry, are 0"
-fn child_of(k: usize, at: u32) -> u32
-    ensures { result ≡ pick (eqb k 0) 0 at }
-{
-    if k == 0 {
-        return 0;
-    }
-    at
-}
-
 #[tactic(auto, unfolding(model::specs::Model::reduced, model::specs::Model::push))]
 fn reduced(g: &Given, rooms: &mut Rooms, st: St, p: ProdNo, k: usize, rest: usize) -> St
     requires { Safe g.now rooms.old.stack.now st × (rest + k ≡ st.height) × (rest + 2 ≤ g.now.depth) ×
         (4 * (st.children + k) ≤ length rooms.old.children.now) × (32 * st.nodes + 32 ≤ length rooms.old.nodes.now) }
-    ensures { Same rooms.old rooms.new × (rooms.new.scratch.now ≡ rooms.old.scratch.now) × (rooms.new.records.now ≡ rooms.old.records.now) ×
-        ((C : Call) → Reads C g.now → Goes C g.now → world_of rooms.new result ≡
-        reduced C (world_of rooms.old st) p.0 k rest) }
+    ensures same { Same rooms.old rooms.new }
+    ensures untouched { (rooms.new.scratch.now ≡ rooms.old.scratch.now) × (rooms.new.records.now ≡ rooms.old.records.now) }
+    ensures reduces { (C : Call) → Reads C g.now → Goes C g.now → world_of rooms.new result ≡
+        reduced C (world_of rooms.old st) p.0 k rest }
 {
     let stack = &mut *rooms.stack;
     let e = production_entry(g, stack, st, p, k, rest);
     copy_nodes(rooms.children, st.children, stack, rest, k);
     put_entry(stack, rest, e);
-    put_node(
-        rooms.nodes,
-        st.nodes,
-        e,
-        child_of(k, st.children as u32),
-        k as u32,
-    );
+    let child = if k == 0 { 0 } else { st.children as u32 };
+    put_node(rooms.nodes, st.nodes, e, child, k as u32);
     grown(st, rest + 1, k, 0, st.next, st.mode)
 }
 
@@ -178,9 +165,10 @@ fn reduced(g: &Given, rooms: &mut Rooms, st: St, p: ProdNo, k: usize, rest: usiz
 #[tactic(auto, using(moves::specs::Serving::depth_fits_law, moves::specs::Serving::too_deep), unfolding(model::specs::Model::reduce_over))]
 fn reduce_over(g: &Given, rooms: &mut Rooms, st: St, p: ProdNo, k: usize, rest: usize) -> St
     requires { Safe g.now rooms.old.stack.now st × (rest + k ≡ st.height) }
-    ensures { Same rooms.old rooms.new × (rooms.new.scratch.now ≡ rooms.old.scratch.now) × (rooms.new.records.now ≡ rooms.old.records.now) ×
-        ((C : Call) → Reads C g.now → Goes C g.now → world_of rooms.new result ≡
-        reduce_over C (world_of rooms.old st) p.0 k rest) }
+    ensures same { Same rooms.old rooms.new }
+    ensures untouched { (rooms.new.scratch.now ≡ rooms.old.scratch.now) × (rooms.new.records.now ≡ rooms.old.records.now) }
+    ensures reduces { (C : Call) → Reads C g.now → Goes C g.now → world_of rooms.new result ≡
+        reduce_over C (world_of rooms.old st) p.0 k rest }
 {
     if g.depth < rest + 2 {
         return ended(st, Answer::OutOfDepth);
@@ -198,9 +186,10 @@ fn reduce_over(g: &Given, rooms: &mut Rooms, st: St, p: ProdNo, k: usize, rest: 
 #[tactic(auto, using(moves::specs::Serving::size_is), unfolding(model::specs::Model::reduce))]
 pub fn reduce(g: &Given, rooms: &mut Rooms, st: St, p: ProdNo) -> St
     requires { Safe g.now rooms.old.stack.now st }
-    ensures { Same rooms.old rooms.new × (rooms.new.scratch.now ≡ rooms.old.scratch.now) × (rooms.new.records.now ≡ rooms.old.records.now) ×
-        ((C : Call) → Reads C g.now → Goes C g.now → world_of rooms.new result ≡
-        reduce C (world_of rooms.old st) p.0) }
+    ensures same { Same rooms.old rooms.new }
+    ensures untouched { (rooms.new.scratch.now ≡ rooms.old.scratch.now) × (rooms.new.records.now ≡ rooms.old.records.now) }
+    ensures reduces { (C : Call) → Reads C g.now → Goes C g.now → world_of rooms.new result ≡
+        reduce C (world_of rooms.old st) p.0 }
 {
     let k = size(g.productions, p.0 as usize).min(st.height);
     reduce_over(g, rooms, st, p, k, st.height - k)

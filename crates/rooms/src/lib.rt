@@ -2,7 +2,7 @@
 // A room is written by whole entries, and read at whole entries, so that its place inside the room is the only thing asked.
 #![tactic(auto)]
 
-ghost use Rattle.std.specs.Prelude.{◌≡◌, ◌+◌, ◌*◌, ◌-◌, ◌≤◌, ◌<◌, ◌^◌, length};
+ghost use Rattle.std.specs.Prelude.{◌≡◌, ◌+◌, ◌*◌, ◌≤◌, ◌<◌, ◌^◌, length};
 ghost use Rattle.words.specs.Words.{word32};
 ghost use Rattle.rules.specs.Answers.{kind_of, which_of};
 ghost use Rattle.rooms.specs.Put.{put_words};
