@@ -11,7 +11,7 @@ ghost use Rattle.looks.specs.Deciding.{on_act, Sure};
 
 use looks::{Act, decide};
 use model::{Mode, St};
-use moves::{Given, arrive, counted, ended, fail, further, searching};
+use moves::{Given, arrive, counted, ended, fail, further, lookahead, searching};
 use pushes::{reduce, shift};
 use recovery::{recover, simulate_on};
 use rooms::{Rooms, top_at};
@@ -31,7 +31,12 @@ fn first_st(origin: u32) -> St
         next: 0,
         last: origin,
         mode: Mode::Main,
-        formed: Formed { number: 0, at: 0, from: 0, top: StateNo(0) },
+        formed: Formed {
+            number: 0,
+            at: 0,
+            from: 0,
+            top: StateNo(0),
+        },
         popped: 0,
         base: 0,
         pushed: 0,
@@ -66,17 +71,13 @@ fn formed_at(g: &Given, stack: &[u8], st: St) -> Formed
 {
     let from = st.next as u32;
     let top = StateNo(top_at(stack, st.height));
-    if st.next < g.count {
-        return Formed {
-            number: 3,
-            at: from,
-            from,
-            top,
-        };
-    }
+    let (number, at) = match lookahead(g, st) {
+        Some(_) => (3, from),
+        None => (4, st.last),
+    };
     Formed {
-        number: 4,
-        at: st.last,
+        number,
+        at,
         from,
         top,
     }
@@ -94,15 +95,11 @@ fn fail_now(g: &Given, stack: &[u8], st: St) -> St
 
 // What a look decided is done. Each act has one place, so that the whole step is one function of the machine's code.
 #[tactic(auto, unfolding(looks::specs::Deciding::on_act))]
-fn perform(
-    g: &Given,
-    rooms: &mut Rooms,
-    st: St,
-    act: Act,
-) -> St
+fn perform(g: &Given, rooms: &mut Rooms, st: St, act: Act) -> St
     requires { Safe g.now rooms.old.stack.now st × (4 * g.now.depth ≤ length rooms.old.scratch.now) ×
         Sure g.now st act }
-    ensures { Same rooms.old rooms.new × ((C : Call) → Serves C g.now → world_of rooms.new result ≡ on_act C (world_of rooms.old st) act) }
+    ensures same { Same rooms.old rooms.new }
+    ensures performs { (C : Call) → Serves C g.now → world_of rooms.new result ≡ on_act C (world_of rooms.old st) act }
 {
     match act {
         Act::ShiftTo(to) => shift(g, rooms, st, to),
@@ -119,14 +116,11 @@ fn perform(
 
 // "One unit is one look at an action cell": the look is counted, whatever comes of it.
 #[tactic(auto, using(crate::specs::Running::fine_counted, crate::specs::Running::simulable_counted), unfolding(model::specs::Model::step))]
-pub fn step(
-    g: &Given,
-    rooms: &mut Rooms,
-    st: St,
-) -> St
+pub fn step(g: &Given, rooms: &mut Rooms, st: St) -> St
     requires { Safe g.now rooms.old.stack.now st × Simulable (length rooms.old.stack.now)
         (length rooms.old.scratch.now) g.now.depth st × (st.units + 1 < 2 ^ 32) }
-    ensures { Same rooms.old rooms.new × ((C : Call) → Serves C g.now → world_of rooms.new result ≡ step C (world_of rooms.old st)) }
+    ensures same { Same rooms.old rooms.new }
+    ensures steps { (C : Call) → Serves C g.now → world_of rooms.new result ≡ step C (world_of rooms.old st) }
 {
     let s = counted(st);
     let stack = &mut *rooms.stack;
@@ -142,15 +136,11 @@ fn is_ended(mode: Mode) -> bool
 }
 
 // "19 is given exactly if another is needed": that is the answer that a run has while it has not ended.
-pub fn run(
-    g: &Given,
-    rooms: &mut Rooms,
-    st: St,
-    budget: u32,
-) -> St
+pub fn run(g: &Given, rooms: &mut Rooms, st: St, budget: u32) -> St
     requires { Safe g.now rooms.old.stack.now st × Simulable (length rooms.old.stack.now)
         (length rooms.old.scratch.now) g.now.depth st × (st.units + budget < 2 ^ 32) }
-    ensures { Same rooms.old rooms.new × ((C : Call) → Serves C g.now → world_of rooms.new result ≡ run_from C budget (world_of rooms.old st)) }
+    ensures same { Same rooms.old rooms.new }
+    ensures runs { (C : Call) → Serves C g.now → world_of rooms.new result ≡ run_from C budget (world_of rooms.old st) }
 {
     let mut s = st;
     for _ in 0..budget {
@@ -163,13 +153,10 @@ pub fn run(
 }
 
 // `Parser::drive` of the Rust: a run from its beginning.
-pub fn drive(
-    g: &Given,
-    rooms: &mut Rooms,
-    budget: u32,
-) -> St
+pub fn drive(g: &Given, rooms: &mut Rooms, budget: u32) -> St
     requires { Small g.now × (32 * g.now.depth ≤ length rooms.old.stack.now) × (4 * g.now.depth ≤ length rooms.old.scratch.now) }
-    ensures { Same rooms.old rooms.new × ((C : Call) → Serves C g.now → world_of rooms.new result ≡ run_from C budget (world_of rooms.old (begin C))) }
+    ensures same { Same rooms.old rooms.new }
+    ensures drives { (C : Call) → Serves C g.now → world_of rooms.new result ≡ run_from C budget (world_of rooms.old (begin C)) }
 {
     run(g, rooms, begin(g), budget)
 }

@@ -15,10 +15,10 @@ ghost use Rattle.moves.specs.declared.Given.{Given};
 ghost use Rattle.looks.specs.Deciding.{on_act, Sure};
 
 use model::{Mode, St};
-use moves::Given;
+use moves::{Given, lookahead};
 use pushes::goto_state;
 use recovery::error_cell;
-use rooms::{sim_top, symbol_at, token_at, top_at};
+use rooms::{sim_top, symbol_at, top_at};
 use rules::{Answer, Cell, ProdNo, StateNo};
 use tables::{cell_in, size};
 
@@ -42,10 +42,10 @@ fn look_column(g: &Given, st: St) -> usize
     requires { Small g.now × (st.next < 2 ^ 32) }
     ensures { (C : Call) → Reads C g.now → result ≡ look_column C st }
 {
-    if st.next < g.count {
-        return token_at(g.tokens, st.next).kind as usize;
+    match lookahead(g, st) {
+        Some(token) => token.kind as usize,
+        None => g.kinds + 1,
     }
-    g.kinds + 1
 }
 
 // The cell of a state under the lookahead.
@@ -55,7 +55,13 @@ fn cell_under(g: &Given, st: St, top: u32) -> Cell
     ensures { (C : Call) → Reads C g.now → Acts C g.now → result ≡
         action C.tables top (look_column C st) }
 {
-    cell_in(g.actions, g.states, g.kinds + 2, top as usize, look_column(g, st))
+    cell_in(
+        g.actions,
+        g.states,
+        g.kinds + 2,
+        top as usize,
+        look_column(g, st),
+    )
 }
 
 // The node of the only symbol over which production 0 is reduced.
@@ -72,9 +78,10 @@ fn root_at(stack: &[u8], height: usize) -> u32
 // At the end of input, `parse_eof` of the Rust, a shift is no shift.
 #[tactic(auto, using(moves::specs::Serving::has_token_law, moves::specs::Serving::no_token_law), unfolding(model::specs::Model::main_look, crate::specs::Deciding::on_act))]
 fn main_shift(g: &Given, st: St, to: StateNo) -> Act
-    ensures { Sure g.now st result × ((C : Call) (stack scratch nodes children records : List ℕ) → Reads C g.now →
+    ensures sure { Sure g.now st result }
+    ensures decides { (C : Call) (stack scratch nodes children records : List ℕ) → Reads C g.now →
         main_look C (world stack scratch nodes children records st) (has_token C st) (Shift to) ≡
-        on_act C (world stack scratch nodes children records st) result) }
+        on_act C (world stack scratch nodes children records st) result }
 {
     if st.next < g.count {
         return Act::ShiftTo(to);
@@ -86,23 +93,25 @@ fn main_shift(g: &Given, st: St, to: StateNo) -> Act
 #[tactic(auto, using(moves::specs::Serving::has_token_law, moves::specs::Serving::no_token_law), unfolding(model::specs::Model::main_reduce, model::specs::Model::root_at, crate::specs::Deciding::on_act))]
 fn main_accept(g: &Given, stack: &[u8], st: St) -> Act
     requires { (st.next < 2 ^ 32) × (32 * st.height ≤ length stack.now) }
-    ensures { Sure g.now st result × ((C : Call) (scratch nodes children records : List ℕ) → Reads C g.now →
+    ensures sure { Sure g.now st result }
+    ensures decides { (C : Call) (scratch nodes children records : List ℕ) → Reads C g.now →
         main_reduce C (world stack.now scratch nodes children records st) (has_token C st) 0 ≡
-        on_act C (world stack.now scratch nodes children records st) result) }
+        on_act C (world stack.now scratch nodes children records st) result }
 {
-    if st.next < g.count {
-        return Act::EndWith(Answer::ExtraToken(st.next as u32));
+    match lookahead(g, st) {
+        Some(_) => Act::EndWith(Answer::ExtraToken(st.next as u32)),
+        None => Act::EndWith(Answer::Accepted(root_at(stack, st.height))),
     }
-    Act::EndWith(Answer::Accepted(root_at(stack, st.height)))
 }
 
 // "reducing it accepts, and builds no node"
 #[tactic(auto, using(crate::specs::Cases::main_more), unfolding(crate::specs::Deciding::on_act))]
 fn main_reduce(g: &Given, stack: &[u8], st: St, p: ProdNo) -> Act
     requires { (st.next < 2 ^ 32) × (32 * st.height ≤ length stack.now) }
-    ensures { Sure g.now st result × ((C : Call) (scratch nodes children records : List ℕ) → Reads C g.now →
+    ensures sure { Sure g.now st result }
+    ensures decides { (C : Call) (scratch nodes children records : List ℕ) → Reads C g.now →
         main_reduce C (world stack.now scratch nodes children records st) (has_token C st) p.0 ≡
-        on_act C (world stack.now scratch nodes children records st) result) }
+        on_act C (world stack.now scratch nodes children records st) result }
 {
     if p.0 == 0 {
         return main_accept(g, stack, st);
@@ -114,9 +123,10 @@ fn main_reduce(g: &Given, stack: &[u8], st: St, p: ProdNo) -> Act
 #[tactic(auto, using(crate::specs::Cases::main_reduces, crate::specs::Cases::main_fails), unfolding(model::specs::Model::look, crate::specs::Deciding::on_act))]
 pub fn main_look(g: &Given, stack: &[u8], st: St) -> Act
     requires { Safe g.now stack.now st }
-    ensures { Sure g.now st result × ((C : Call) (scratch nodes children records : List ℕ) → Reads C g.now →
+    ensures sure { Sure g.now st result }
+    ensures decides { (C : Call) (scratch nodes children records : List ℕ) → Reads C g.now →
         Acts C g.now → look C (world stack.now scratch nodes children records st) Main ≡
-        on_act C (world stack.now scratch nodes children records st) result) }
+        on_act C (world stack.now scratch nodes children records st) result }
 {
     match cell_under(g, st, top_at(stack, st.height)) {
         Cell::Shift(to) => main_shift(g, st, to),
@@ -129,9 +139,10 @@ pub fn main_look(g: &Given, stack: &[u8], st: St) -> Act
 #[tactic(auto, using(crate::specs::Cases::column_more), unfolding(model::specs::Model::column_reduce, model::specs::Model::root_at, crate::specs::Deciding::on_act))]
 fn column_reduce(stack: &[u8], st: St, p: ProdNo) -> Act
     requires { 32 * st.height ≤ length stack.now }
-    ensures { ((g : Given) → Sure g st result) × ((C : Call) (scratch nodes children records : List ℕ) →
+    ensures sure { (g : Given) → Sure g st result }
+    ensures decides { (C : Call) (scratch nodes children records : List ℕ) →
         column_reduce C (world stack.now scratch nodes children records st) p.0 ≡
-        on_act C (world stack.now scratch nodes children records st) result) }
+        on_act C (world stack.now scratch nodes children records st) result }
 {
     if p.0 == 0 {
         return Act::EndWith(Answer::AcceptedEarly(root_at(stack, st.height), st.formed.from));
@@ -143,9 +154,10 @@ fn column_reduce(stack: &[u8], st: St, p: ProdNo) -> Act
 #[tactic(auto, unfolding(model::specs::Model::look, model::specs::Model::column_look, crate::specs::Deciding::on_act))]
 pub fn column_look(g: &Given, stack: &[u8], st: St) -> Act
     requires { Safe g.now stack.now st }
-    ensures { Sure g.now st result × ((C : Call) (scratch nodes children records : List ℕ) → Acts C g.now →
+    ensures sure { Sure g.now st result }
+    ensures decides { (C : Call) (scratch nodes children records : List ℕ) → Acts C g.now →
         look C (world stack.now scratch nodes children records st) Column ≡
-        on_act C (world stack.now scratch nodes children records st) result) }
+        on_act C (world stack.now scratch nodes children records st) result }
 {
     match error_cell(g, stack, st.height) {
         Cell::Reduce(p) => column_reduce(stack, st, p),
@@ -158,9 +170,10 @@ pub fn column_look(g: &Given, stack: &[u8], st: St) -> Act
 #[tactic(auto, unfolding(model::specs::Model::look, model::specs::Model::search_look, crate::specs::Deciding::on_act))]
 pub fn search_look(g: &Given, stack: &[u8], st: St) -> Act
     requires { Safe g.now stack.now st × (st.popped ≤ st.height) }
-    ensures { Sure g.now st result × ((C : Call) (scratch nodes children records : List ℕ) → Acts C g.now →
+    ensures sure { Sure g.now st result }
+    ensures decides { (C : Call) (scratch nodes children records : List ℕ) → Acts C g.now →
         look C (world stack.now scratch nodes children records st) Search ≡
-        on_act C (world stack.now scratch nodes children records st) result) }
+        on_act C (world stack.now scratch nodes children records st) result }
 {
     let rest = st.height - st.popped;
     let Cell::Shift(s) = error_cell(g, stack, rest) else {
@@ -173,9 +186,10 @@ pub fn search_look(g: &Given, stack: &[u8], st: St) -> Act
 #[tactic(auto, using(crate::specs::Cases::simulate_more, moves::specs::Serving::size_is), unfolding(model::specs::Model::simulate_over, crate::specs::Deciding::on_act))]
 fn simulate_pop(g: &Given, stack: &[u8], scratch: &[u8], st: St, p: ProdNo) -> Act
     requires { Small g.now × Simulable (length stack.now) (length scratch.now) g.now.depth st × (0 < p.0) }
-    ensures { Sure g.now st result × ((C : Call) (nodes children records : List ℕ) → Goes C g.now →
+    ensures sure { Sure g.now st result }
+    ensures decides { (C : Call) (nodes children records : List ℕ) → Goes C g.now →
         simulate_reduce C (world stack.now scratch.now nodes children records st) p.0 ≡
-        on_act C (world stack.now scratch.now nodes children records st) result) }
+        on_act C (world stack.now scratch.now nodes children records st) result }
 {
     let n = size(g.productions, p.0 as usize);
     let base = st.base.saturating_sub(n.saturating_sub(st.pushed));
@@ -189,9 +203,10 @@ fn simulate_pop(g: &Given, stack: &[u8], scratch: &[u8], st: St, p: ProdNo) -> A
 fn simulate_reduce(g: &Given, stack: &[u8], scratch: &[u8], st: St, p: ProdNo) -> Act
     requires { Small g.now × Simulable (length stack.now) (length scratch.now) g.now.depth st × Within Simulate g.now.depth
         st.popped st.height }
-    ensures { Sure g.now st result × ((C : Call) (nodes children records : List ℕ) → Goes C g.now →
+    ensures sure { Sure g.now st result }
+    ensures decides { (C : Call) (nodes children records : List ℕ) → Goes C g.now →
         simulate_reduce C (world stack.now scratch.now nodes children records st) p.0 ≡
-        on_act C (world stack.now scratch.now nodes children records st) result) }
+        on_act C (world stack.now scratch.now nodes children records st) result }
 {
     if p.0 == 0 {
         return Act::Recover;
@@ -204,9 +219,10 @@ fn simulate_reduce(g: &Given, stack: &[u8], scratch: &[u8], st: St, p: ProdNo) -
 pub fn simulate_look(g: &Given, stack: &[u8], scratch: &[u8], st: St) -> Act
     requires { Small g.now × (st.next < 2 ^ 32) × Simulable (length stack.now) (length scratch.now) g.now.depth st ×
         Within Simulate g.now.depth st.popped st.height }
-    ensures { Sure g.now st result × ((C : Call) (nodes children records : List ℕ) → Serves C g.now →
+    ensures sure { Sure g.now st result }
+    ensures decides { (C : Call) (nodes children records : List ℕ) → Serves C g.now →
         look C (world stack.now scratch.now nodes children records st) Simulate ≡
-        on_act C (world stack.now scratch.now nodes children records st) result) }
+        on_act C (world stack.now scratch.now nodes children records st) result }
 {
     let top = sim_top(stack, scratch, st.base, st.pushed);
     match cell_under(g, st, top) {
@@ -221,9 +237,10 @@ pub fn simulate_look(g: &Given, stack: &[u8], scratch: &[u8], st: St) -> Act
 pub fn decide(g: &Given, stack: &[u8], scratch: &[u8], st: St, mode: Mode) -> Act
     requires { Safe g.now stack.now st × Simulable (length stack.now)
         (length scratch.now) g.now.depth st × Within mode g.now.depth st.popped st.height }
-    ensures { Sure g.now st result × ((C : Call) (nodes children records : List ℕ) → Serves C g.now →
+    ensures sure { Sure g.now st result }
+    ensures decides { (C : Call) (nodes children records : List ℕ) → Serves C g.now →
         look C (world stack.now scratch.now nodes children records st) mode ≡
-        on_act C (world stack.now scratch.now nodes children records st) result) }
+        on_act C (world stack.now scratch.now nodes children records st) result }
 {
     match mode {
         Mode::Main => main_look(g, stack, st),

@@ -12,7 +12,7 @@ ghost use Rattle.moves.specs.Serving.{Reads, Acts, world};
 ghost use Rattle.moves.specs.Bounds.{Small, Fine, Safe};
 
 use model::{Mode, St};
-use moves::{Given, ended, grown, simulating};
+use moves::{Given, ended, grown, lookahead, simulating};
 use pushes::{end_below, target};
 use records::{Actions, put_record};
 use rooms::{Rooms, put_entry, put_node, symbol_at, token_at, top_at};
@@ -72,16 +72,15 @@ fn mark_start(g: &Given, stack: &[u8], st: St, rest: usize) -> u32
 }
 
 // "else the lookahead's start; else the mark's start"
-#[tactic(auto, using(moves::specs::Serving::has_token_law, moves::specs::Serving::no_token_law))]
 fn end_unpopped(g: &Given, st: St, start: u32) -> u32
     requires { st.next < 2 ^ 32 }
     ensures { (C : Call) → Reads C g.now → result ≡ pick (has_token C st)
         (token_start C st.next) start }
 {
-    if st.next < g.count {
-        return token_at(g.tokens, st.next).start;
+    match lookahead(g, st) {
+        Some(token) => token.start,
+        None => start,
     }
-    start
 }
 
 // "Mark end: the last dropped token's end; else, if anything popped, the last symbol's end"
@@ -119,7 +118,13 @@ pub fn error_cell(g: &Given, stack: &[u8], height: usize) -> Cell
     ensures { (C : Call) → Acts C g.now → result ≡ action C.tables
         (top_at stack.now height) (error_column C.tables) }
 {
-    cell_in(g.actions, g.states, g.kinds + 2, top_at(stack, height) as usize, g.kinds)
+    cell_in(
+        g.actions,
+        g.states,
+        g.kinds + 2,
+        top_at(stack, height) as usize,
+        g.kinds,
+    )
 }
 
 // "The repeated look that places the mark is free."
@@ -153,9 +158,9 @@ fn mark_entry(g: &Given, stack: &[u8], st: St, rest: usize) -> Entry
 fn marked(g: &Given, rooms: &mut Rooms, st: St, rest: usize, e: Entry) -> St
     requires { Safe g.now rooms.old.stack.now st × (32 * rest + 32 ≤ length rooms.old.stack.now) ×
         (32 * st.nodes + 32 ≤ length rooms.old.nodes.now) × (64 * st.records + 64 ≤ length rooms.old.records.now) }
-    ensures { Same rooms.old rooms.new × (rooms.new.scratch.now ≡ rooms.old.scratch.now) ×
-        (rooms.new.children.now ≡ rooms.old.children.now) ×
-        ((C : Call) → Acts C g.now → world_of rooms.new result ≡ marked C (world_of rooms.old st) rest e) }
+    ensures same { Same rooms.old rooms.new }
+    ensures untouched { (rooms.new.scratch.now ≡ rooms.old.scratch.now) × (rooms.new.children.now ≡ rooms.old.children.now) }
+    ensures marks { (C : Call) → Acts C g.now → world_of rooms.new result ≡ marked C (world_of rooms.old st) rest e }
 {
     let actions = Actions {
         bytes: g.actions,
@@ -173,10 +178,10 @@ fn mark(g: &Given, rooms: &mut Rooms, st: St, rest: usize) -> St
     requires { Safe g.now rooms.old.stack.now st × (rest + st.popped ≡ st.height) ×
         (32 * rest + 32 ≤ length rooms.old.stack.now) × (32 * st.nodes + 32 ≤ length rooms.old.nodes.now) ×
         (64 * st.records + 64 ≤ length rooms.old.records.now) }
-    ensures { Same rooms.old rooms.new × (rooms.new.scratch.now ≡ rooms.old.scratch.now) ×
-        (rooms.new.children.now ≡ rooms.old.children.now) ×
-        ((C : Call) → Reads C g.now → Acts C g.now → world_of rooms.new result ≡
-        marked C (world_of rooms.old st) rest (mark_entry C (world_of rooms.old st) rest)) }
+    ensures same { Same rooms.old rooms.new }
+    ensures untouched { (rooms.new.scratch.now ≡ rooms.old.scratch.now) × (rooms.new.children.now ≡ rooms.old.children.now) }
+    ensures marks { (C : Call) → Reads C g.now → Acts C g.now → world_of rooms.new result ≡
+        marked C (world_of rooms.old st) rest (mark_entry C (world_of rooms.old st) rest) }
 {
     let stack = &mut *rooms.stack;
     let e = mark_entry(g, stack, st, rest);
@@ -187,9 +192,9 @@ fn mark(g: &Given, rooms: &mut Rooms, st: St, rest: usize) -> St
 #[tactic(auto, unfolding(model::specs::Model::recover, model::specs::Model::place_mark))]
 pub fn recover(g: &Given, rooms: &mut Rooms, st: St) -> St
     requires { Safe g.now rooms.old.stack.now st × (st.popped ≤ st.height) × (st.height + 2 ≤ g.now.depth + st.popped) }
-    ensures { Same rooms.old rooms.new × (rooms.new.scratch.now ≡ rooms.old.scratch.now) ×
-        (rooms.new.children.now ≡ rooms.old.children.now) ×
-        ((C : Call) → Reads C g.now → Acts C g.now → world_of rooms.new result ≡ recover C (world_of rooms.old st)) }
+    ensures same { Same rooms.old rooms.new }
+    ensures untouched { (rooms.new.scratch.now ≡ rooms.old.scratch.now) × (rooms.new.children.now ≡ rooms.old.children.now) }
+    ensures recovers { (C : Call) → Reads C g.now → Acts C g.now → world_of rooms.new result ≡ recover C (world_of rooms.old st) }
 {
     let rest = st.height - st.popped;
     if rooms.nodes.len() / 32 < st.nodes + 1 {

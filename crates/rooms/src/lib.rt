@@ -21,7 +21,7 @@ pub struct Rooms<'a> {
     pub records: &'a mut [u8],
 }
 
-// Words, one behind the other.
+// Words, one behind the other: the compiler unrolls the loop, for four words and for eight.
 pub fn put_words<const N: usize>(s: &mut [u8], at: usize, words: [u32; N])
     requires { at + 4 * N ≤ length s.old }
     ensures { s.new ≡ put_words s.old at words.entry }

@@ -14,8 +14,8 @@ returns c = let x = c.args in
     let b = rooms_in x.rooms.now in
     let g = x.g.now in
     record {
-      same = c.drive.ensures.0;
-      by_index = λ T s. c.drive.ensures.1 (call_in T g b) s;
+      same = c.drive.ensures.same;
+      by_index = λ T s. c.drive.ensures.drives (call_in T g b) s;
       counted = counted (Served.call_of g).tables g.tokens.now g.origin x.budget b _ f.tokens_fit f.bytes f.origin_in
-          c.ranges.budget.fits (c.drive.ensures.1 (call_in (Served.call_of g).tables g b) (own g b f));
+          c.ranges.budget.fits (c.drive.ensures.drives (call_in (Served.call_of g).tables g b) (own g b f));
     }

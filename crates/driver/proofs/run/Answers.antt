@@ -30,11 +30,11 @@ loop-init c = let p = c.requires in
     }
 
 pub returns-then-is_ended : goal.returns-then-is_ended
-returns-then-is_ended c = let l = c.loop in (
-  l.invariant.same,
-  λ C m. sym (run_ended C (c.args.budget - l.counter) (world_of l.rooms l.s)
-      (sym c.is_ended.ensures ∙ c.if-is_ended.true)) ∙ l.invariant.rest C m,
-)
+returns-then-is_ended c = let l = c.loop in record {
+  same = l.invariant.same;
+  runs = λ C m. sym (run_ended C (c.args.budget - l.counter) (world_of l.rooms l.s)
+      (sym c.is_ended.ensures ∙ c.if-is_ended.true)) ∙ l.invariant.rest C m;
+}
 
 pub step-s-requires : goal.step-s-requires
 step-s-requires c = let p = c.requires in
@@ -49,10 +49,10 @@ loop-preserved c = let x = c.args in
     let l = c.loop in
     let q = c.step-s in
     going_on x.g.now x.rooms.now x.st x.budget l.rooms l.s (x.budget - l.counter) q.new.rooms q.result (x.budget - (l.counter + 1))
-    l.invariant (omega arith) (sym c.is_ended.ensures ∙ c.if-is_ended.false) q.ensures.0 q.ensures.1
+    l.invariant (omega arith) (sym c.is_ended.ensures ∙ c.if-is_ended.false) q.ensures.same q.ensures.steps
 
 pub returns : goal.returns
-returns c = let l = c.loop in (
-  l.invariant.same,
-  λ C m. sym (run_none C (c.args.budget - l.counter) (world_of l.rooms l.s) (omega arith)) ∙ l.invariant.rest C m,
-)
+returns c = let l = c.loop in record {
+  same = l.invariant.same;
+  runs = λ C m. sym (run_none C (c.args.budget - l.counter) (world_of l.rooms l.s) (omega arith)) ∙ l.invariant.rest C m;
+}

@@ -5,10 +5,10 @@ use Rattle.looks.proofs.column_look.Goals as goal
 
 pub returns-in-Reduce : goal.returns-in-Reduce
 unfolding look column_look
-returns-in-Reduce c = (
-  c.column_reduce.ensures.0 c.args.g.now,
-  λ C scratch nodes children records a. rw (
+returns-in-Reduce c = record {
+  sure = c.column_reduce.ensures.sure c.args.g.now;
+  decides = λ C scratch nodes children records a. rw (
     ← c.error_cell.ensures C a,
     c.in-Reduce.is,
-  ) (c.column_reduce.ensures.1 C scratch nodes children records),
-)
+  ) (c.column_reduce.ensures.decides C scratch nodes children records);
+}
