@@ -10,7 +10,7 @@ use Rattle.rules.specs.Basics.{all_below}
 use Rattle.rules.specs.declared.Verdict.TheVariants.{Passes, Refused}
 use Rattle.rules.specs.Check.{check, ok18}
 use Rattle.rules.specs.Driving.{Run}
-use Rattle.rules.specs.Answers.{number_of, value_of, bytes_of, report_words, counts_of, Limits, after_check, drive_reply, parse_reply}
+use Rattle.rules.specs.Answers.{number_of, value_of, bytes_of, report_words, counts_of, Limits, Reply, after_check, drive_reply, parse_reply}
 use Rattle.model.specs.declared.St.{St}
 use Rattle.model.specs.Model.{Call, World}
 use Rattle.moves.specs.Serving.{Serves}
@@ -189,6 +189,10 @@ module _ (sizes : List ℕ) (actions gotos productions tokens : Bor (List ℕ)) 
         goes = record { gotos_are = refl; productions_are = refl; states_are = refl; nonterminals_are = refl };
         acts = record { actions_are = refl; states_are = refl; kinds_are = refl };
       }
+
+-- what is left in the rooms is left in the slices that they are
+pub left_in : (T : Tables) (reply : Reply) (r : Returned) (b e f : Lent) → e ≡ f → Leaves T reply r b e → Leaves T reply r b f
+left_in T reply r b e f p h = rw (← p) h
 
 -- the refusals, which leave every room as it was
 pub refuses_tokens : (T : Tables) (tokens : List ℕ) (origin : ℕ) (L : Limits) (b : Lent) → ok18 tokens ≡ false
