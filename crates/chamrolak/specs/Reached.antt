@@ -1,7 +1,7 @@
 -- From the byte model's run to what a call leaves: the refinement, in the words of `Exit`. And the numbers that serve a call.
 use Rattle.std.specs.Prelude.{true, false, ◌&&◌, List, ◌∷◌, [], ◌≡◌, refl, ℕ, ◌+◌, ◌*◌, ◌/◌, ◌%◌, ◌<◌, ◌≤◌, ◌^◌, leb, eqb, length, get_or}
 use Rattle.std.proofs.Common.{ap, sym, ◌∙◌, arith, leb-true}
-use Rattle.std.proofs.Math.Path.{subst⁻¹}
+use denote.Bor.{Bor}
 use Rattle.words.specs.Words.{get16, word16, word32}
 use Rattle.words.specs.Laws.{Bytes, get16_lt, pick_leb}
 use Rattle.rules.specs.declared.Answer.{Answer}
@@ -10,30 +10,36 @@ use Rattle.rules.specs.Basics.{all_below}
 use Rattle.rules.specs.Verdict.{Passes, Refused}
 use Rattle.rules.specs.Check.{check, ok18}
 use Rattle.rules.specs.Driving.{Run}
-use Rattle.rules.specs.Answers.{number_of, value_of, bytes_of, report_words, counts_of, Limits, after_check, drive_reply, parse_reply}
+use Rattle.rules.specs.Answers.{number_of, value_of, bytes_of, report_words, counts_of, Limits, Reply, after_check, drive_reply, parse_reply}
 use Rattle.model.specs.declared.St.{St}
-use Rattle.model.specs.Model.{Call, World, begin, run_from}
-use Rattle.moves.specs.Serving.{Reads, Goes, Acts}
+use Rattle.model.specs.Model.{Call, World}
+use Rattle.moves.specs.Serving.{Serves}
 use Rattle.moves.specs.Bounds.{Small}
 use Rattle.tables.specs.Fit.{and_left, and_right}
 use Rattle.tables.specs.Places.{call_tables}
 use Rattle.moves.specs.declared.Given.{Given}
+use Rattle.rooms.specs.declared.Rooms as lending
 use Rattle.refine.specs.Tokens.{Rooms}
-use Rattle.refine.specs.Holds.{world_at}
 use Rattle.refine.specs.Theorem.{depth_of, call_of, ran_of, reply_refines}
+use Rattle.driver.specs.Served.{served}
+use Rattle.driver.specs.Served
 use Rattle.report.specs.Report.{answer_words}
 use Rattle.chamrolak.specs.declared.Returned.{Returned}
 use Rattle.chamrolak.specs.Exit.{Lent, lent, limits_in, Leaves}
 
--- a call's numbers, read off its slices
-abbrev pub given_of : List ℕ → ℕ → ℕ → ℕ → Given
-given_of sizes bytes origin depth =
+-- a call's slices, and its numbers read off them
+abbrev pub given_of : List ℕ → Bor (List ℕ) → Bor (List ℕ) → Bor (List ℕ) → Bor (List ℕ) → ℕ → ℕ → Given
+given_of sizes actions gotos productions tokens origin depth =
     record {
+      actions = actions;
+      gotos = gotos;
+      productions = productions;
+      tokens = tokens;
       states = word16 sizes 0;
       kinds = word16 sizes 2;
       nonterminals = word16 sizes 4;
       recovers = eqb (word16 sizes 10) 1;
-      count = bytes / 12;
+      count = length tokens.now / 12;
       origin = origin;
       depth = depth;
     }
@@ -42,6 +48,14 @@ given_of sizes bytes origin depth =
 abbrev pub used : Lent → Rooms
 used b =
     record { stack = b.stack; scratch = b.scratch; nodes = b.nodes; children = b.children; records = b.records }
+
+-- the same of the code's rooms, and with a report beside them
+abbrev pub rooms_in : lending.Rooms → Rooms
+rooms_in r =
+    record { stack = r.stack.now; scratch = r.scratch.now; nodes = r.nodes.now; children = r.children.now; records = r.records.now }
+
+abbrev pub lent_in : lending.Rooms → List ℕ → Lent
+lent_in r report = lent r.stack.now r.scratch.now r.nodes.now r.children.now r.records.now report
 
 -- a run's words in a report are those of its answer and counts
 report_same : (T : Tables) (a : Answer) (r : Run) (units nodes children records : ℕ) → counts_of r ≡ units ∷ nodes ∷ children ∷ records ∷ []
@@ -98,16 +112,40 @@ counted T tokens origin budget b w ok bytes o u e =
       records = omega (arith, L.few, L.spent, L.sized.records_few);
     }
 
--- the numbers serve the call
-serves : (T : Tables) (tokens : List ℕ) (origin depth : ℕ) (b : Rooms) (g : Given) → g ≡ given_of T.sizes (length tokens) origin depth → depth ≡ depth_of b
-    → Reads (call_of T tokens origin b) tokens g × Goes (call_of T tokens origin b) T.gotos T.productions g × Acts (call_of T tokens origin b) T.actions g
-unfolding states kinds nonterminals flag
-serves T tokens origin depth b g e d =
-    subst⁻¹ (λ (x : Given). Reads (call_of T tokens origin b) tokens x × Goes (call_of T tokens origin b) T.gotos T.productions x × Acts (call_of T tokens origin b) T.actions x) e (
-      record { tokens_are = refl; count_is = refl; origin_is = refl; depth_is = sym d; kinds_are = refl; flag_is = refl },
-      record { gotos_are = refl; productions_are = refl; states_are = refl; nonterminals_are = refl },
-      record { actions_are = refl; states_are = refl; kinds_are = refl },
-    )
+-- the call of the byte model on these tables
+abbrev pub call_in : Tables → Given → Rooms → Call
+call_in T g b = call_of T g.tokens.now g.origin b
+
+-- what a run asks of a call: its numbers fit its slices and the rooms
+pub record Fitting (g : Given) (b : Rooms) : Type 0 where
+  pub small : Small g
+  pub count_is : g.count ≡ length g.tokens.now / 12
+  pub depth_is : g.depth ≡ depth_of b
+  pub tokens_fit : ok18 g.tokens.now ≡ true
+  pub bytes : Bytes g.tokens.now
+  pub origin_in : g.origin < 2 ^ 32
+
+-- it serves a call, of which only the tables' sizes are made up
+pub own : (g : Given) (b : Rooms) → Fitting g b → Serves (call_in (Served.call_of g).tables g b) g
+own g b f =
+    let s = served g in
+    record {
+      reads = record {
+        tokens_are = refl;
+        count_is = sym f.count_is;
+        origin_is = refl;
+        depth_is = sym f.depth_is;
+        kinds_are = s.reads.kinds_are;
+        flag_is = s.reads.flag_is;
+      };
+      goes = record {
+        gotos_are = refl;
+        productions_are = refl;
+        states_are = s.goes.states_are;
+        nonterminals_are = s.goes.nonterminals_are;
+      };
+      acts = record { actions_are = refl; states_are = s.acts.states_are; kinds_are = s.acts.kinds_are };
+    }
 
 word16_lt : (s : List ℕ) (at : ℕ) → Bytes s → word16 s at < 2 ^ 16
 unfolding word16
@@ -121,23 +159,40 @@ few_tokens s e =
     (and_right (eqb (length s % 12) 0) (leb (length s / 12) 4096)
     (and_left (eqb (length s % 12) 0 && leb (length s / 12) 4096) (all_below (length s / 12) (λ i. leb (word32 s (12 * i)) 65535)) e))
 
--- and meet what the driver asks
-pub asks : (sizes tokens : List ℕ) (origin depth stack scratch : ℕ) (g : Given) → Bytes sizes → ok18 tokens ≡ true
-    → g ≡ given_of sizes (length tokens) origin depth → 32 * depth ≤ stack → 4 * depth ≤ scratch
-    → Small g × (32 * g.depth ≤ stack) × (4 * g.depth ≤ scratch)
-asks sizes tokens origin depth stack scratch g h ok e s t =
-    subst⁻¹ (λ (x : Given). Small x × (32 * x.depth ≤ stack) × (4 * x.depth ≤ scratch)) e
-    (record { states_small = word16_lt sizes 0 h; kinds_small = word16_lt sizes 2 h; nonterminals_small = word16_lt sizes 4 h; count_small = omega (arith, few_tokens tokens ok) }, s, t)
+module _ (sizes : List ℕ) (actions gotos productions tokens : Bor (List ℕ)) (origin depth : ℕ) (b : Rooms) where
+  -- the numbers that are read off fit
+  pub fits : Bytes sizes → Bytes tokens.now → origin < 2 ^ 32 → ok18 tokens.now ≡ true → depth ≡ depth_of b →
+      Fitting (given_of sizes actions gotos productions tokens origin depth) b
+  fits h t o ok d =
+      record {
+        small = record {
+          states_small = word16_lt sizes 0 h;
+          kinds_small = word16_lt sizes 2 h;
+          nonterminals_small = word16_lt sizes 4 h;
+          count_small = omega (arith, few_tokens tokens.now ok);
+        };
+        count_is = refl;
+        depth_is = d;
+        tokens_fit = ok;
+        bytes = t;
+        origin_in = o;
+      }
 
--- so the run is the byte model's, whatever right sides, items and sets go with these tables
-pub all_run : (sizes actions gotos productions tokens : List ℕ) (origin depth budget : ℕ) (b : Rooms) (g : Given) (w : World)
-    → g ≡ given_of sizes (length tokens) origin depth → depth ≡ depth_of b
-    → ((C : Call) → Reads C tokens g → Goes C gotos productions g → Acts C actions g → w ≡ run_from C budget (world_at b (begin C)))
-    → (rights items sets : List ℕ) → w ≡ ran_of (call_tables sizes actions gotos productions rights items sets) tokens origin b budget
-all_run sizes actions gotos productions tokens origin depth budget b g w e d run rights items sets =
-    let T : Tables = call_tables sizes actions gotos productions rights items sets in
-    let s = serves T tokens origin depth b g e d in
-    run (call_of T tokens origin b) s.0 s.1 s.2
+  -- and serve the call, whatever right sides, items and sets go with these tables
+  pub serves : (rights items sets : List ℕ) → depth ≡ depth_of b →
+      (let g : Given = given_of sizes actions gotos productions tokens origin depth in
+      Serves (call_in (call_tables sizes actions.now gotos.now productions.now rights items sets) g b) g)
+  unfolding states kinds nonterminals flag
+  serves rights items sets d =
+      record {
+        reads = record { tokens_are = refl; count_is = refl; origin_is = refl; depth_is = sym d; kinds_are = refl; flag_is = refl };
+        goes = record { gotos_are = refl; productions_are = refl; states_are = refl; nonterminals_are = refl };
+        acts = record { actions_are = refl; states_are = refl; kinds_are = refl };
+      }
+
+-- what is left in the rooms is left in the slices that they are
+pub left_in : (T : Tables) (reply : Reply) (r : Returned) (b e f : Lent) → e ≡ f → Leaves T reply r b e → Leaves T reply r b f
+left_in T reply r b e f p h = rw (← p) h
 
 -- the refusals, which leave every room as it was
 pub refuses_tokens : (T : Tables) (tokens : List ℕ) (origin : ℕ) (L : Limits) (b : Lent) → ok18 tokens ≡ false

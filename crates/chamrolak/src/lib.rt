@@ -2,22 +2,26 @@
 // for all input. The crate chamrolak_c exports them, and include/chamrolak.h has them for C.
 #![tactic(auto)]
 
-ghost use Rattle.std.specs.Prelude.{true, Err, List, [], ◌≡◌, ℕ, ◌<◌, ◌^◌, length};
-ghost use Rattle.rules.specs.Check.{check, ok18};
+ghost use Rattle.std.specs.Prelude.{Err, List, [], ◌≡◌, ℕ, ◌<◌, ◌^◌, length};
+ghost use Rattle.rules.specs.Tables.{Tables as Lists};
+ghost use Rattle.rules.specs.Check.{check};
 ghost use Rattle.rules.specs.Answers.{drive_reply, parse_reply};
-ghost use Rattle.moves.specs.Serving.{world};
+ghost use Rattle.rooms.specs.Lent.{Same, world_of};
+ghost use Rattle.moves.specs.Serving.{Serves};
 ghost use Rattle.refine.specs.Theorem.{ran_of};
 ghost use Rattle.tables.specs.Places.{call_tables};
 ghost use Rattle.chamrolak.specs.Exit.{returned_of, lent, limits_in, Leaves};
-ghost use Rattle.chamrolak.specs.Reached.{Counted, given_of, used};
+ghost use Rattle.chamrolak.specs.Reached.{Counted, Fitting, call_in, given_of, rooms_in, lent_in};
 
 use driver::{depth_of, drive};
 use model::St;
 use moves::Given;
 use records::Actions;
 use report::{number_of, put_report, value_of};
+use rooms::Rooms;
 use rules::Refusal;
 use shapes::tokens::tokens_fit;
+use tables::Tables;
 use words::word16;
 
 // What a call returns: the number of document 01's answer or refusal, and its place or first field. 0 is the number of tables that
@@ -53,7 +57,8 @@ pub fn chamrolak_check(
 ) -> Returned
     ensures { result ≡ returned_of (check (call_tables sizes.now actions.now gotos.now productions.now rights.now items.now sets.now)) }
 {
-    match checker::check(sizes, actions, gotos, productions, rights, items, sets) {
+    let tables = Tables::new(sizes, actions, gotos, productions, rights, items, sets);
+    match checker::check(&tables) {
         Ok(()) => Returned {
             number: 0,
             value: 0,
@@ -62,113 +67,67 @@ pub fn chamrolak_check(
     }
 }
 
-// The numbers of a call, read off its slices.
-fn given(sizes: &[u8], bytes: usize, origin: u32, depth: usize) -> Given
-    ensures { result ≡ given_of sizes.now bytes origin depth }
+// A call, its numbers read off its slices.
+fn given<'a>(
+    sizes: &[u8],
+    actions: &'a [u8],
+    gotos: &'a [u8],
+    productions: &'a [u8],
+    tokens: &'a [u8],
+    origin: u32,
+    depth: usize,
+) -> Given<'a>
+    ensures { result ≡ given_of sizes.now actions.entry gotos.entry productions.entry tokens.entry origin depth }
 {
-    let states = word16(sizes, 0);
-    let kinds = word16(sizes, 2);
-    let nonterminals = word16(sizes, 4);
-    let flag = word16(sizes, 10);
     Given {
-        states: states as usize,
-        kinds: kinds as usize,
-        nonterminals: nonterminals as usize,
-        recovers: flag == 1,
-        count: bytes / 12,
+        actions,
+        gotos,
+        productions,
+        tokens,
+        states: word16(sizes, 0) as usize,
+        kinds: word16(sizes, 2) as usize,
+        nonterminals: word16(sizes, 4) as usize,
+        recovers: word16(sizes, 10) == 1,
+        count: tokens.len() / 12,
         origin,
         depth,
     }
 }
 
-// The run: the byte model's, whatever right sides, items and sets go with these tables.
-fn run_all(
-    sizes: &[u8],
-    actions: &[u8],
-    gotos: &[u8],
-    productions: &[u8],
-    tokens: &[u8],
-    origin: u32,
-    budget: u32,
-    stack: &mut [u8],
-    scratch: &mut [u8],
-    nodes: &mut [u8],
-    children: &mut [u8],
-    records: &mut [u8],
-) -> St
-    requires { ok18 tokens.now ≡ true }
-    ensures by_index { (rights items sets : List ℕ) → world stack.new scratch.new nodes.new children.new records.new result ≡ ran_of (call_tables sizes.now actions.now gotos.now productions.now rights items sets) tokens.now origin (used (lent stack.old scratch.old nodes.old children.old records.old [])) budget }
+// The run: the byte model's, whatever tables the call serves.
+fn run_all(g: &Given, rooms: &mut Rooms, budget: u32) -> St
+    requires { Fitting g.now (rooms_in rooms.old) }
+    ensures same { Same rooms.old rooms.new }
+    ensures by_index { (T : Lists) → Serves (call_in T g.now (rooms_in rooms.old)) g.now → world_of rooms.new result ≡ ran_of T g.now.tokens.now g.now.origin (rooms_in rooms.old) budget }
     ensures counted { Counted result }
 {
-    let depth = depth_of(stack.len(), scratch.len());
-    let g = given(sizes, tokens.len(), origin, depth);
-    drive(
-        actions,
-        gotos,
-        productions,
-        tokens,
-        g,
-        stack,
-        scratch,
-        nodes,
-        children,
-        records,
-        budget,
-    )
+    drive(g, rooms, budget)
 }
 
 // The run with its report.
-fn answer_all(
-    sizes: &[u8],
-    actions: &[u8],
-    gotos: &[u8],
-    productions: &[u8],
-    tokens: &[u8],
-    origin: u32,
-    budget: u32,
-    stack: &mut [u8],
-    scratch: &mut [u8],
-    nodes: &mut [u8],
-    children: &mut [u8],
-    records: &mut [u8],
-    report: &mut [u8],
-) -> Returned
-    requires { (ok18 tokens.now ≡ true) × (length report.old ≡ 64) }
-    ensures { (rights items sets : List ℕ) → Leaves (call_tables sizes.now actions.now gotos.now productions.now rights items sets) (drive_reply (call_tables sizes.now actions.now gotos.now productions.now rights items sets) tokens.now origin (limits_in (lent stack.old scratch.old nodes.old children.old records.old report.old) budget)) result (lent stack.old scratch.old nodes.old children.old records.old report.old) (lent stack.new scratch.new nodes.new children.new records.new report.new) }
+fn answer_all(g: &Given, rooms: &mut Rooms, report: &mut [u8], budget: u32) -> Returned
+    requires { Fitting g.now (rooms_in rooms.old) × (length report.old ≡ 64) }
+    ensures same { Same rooms.old rooms.new }
+    ensures answer { (T : Lists) → Serves (call_in T g.now (rooms_in rooms.old)) g.now → Leaves T (drive_reply T g.now.tokens.now g.now.origin (limits_in (lent_in rooms.old report.old) budget)) result (lent_in rooms.old report.old) (lent_in rooms.new report.new) }
 {
-    let states = word16(sizes, 0);
-    let kinds = word16(sizes, 2);
-    let st = run_all(
-        sizes,
-        actions,
-        gotos,
-        productions,
-        tokens,
-        origin,
-        budget,
-        stack,
-        scratch,
-        nodes,
-        children,
-        records,
-    );
-    let answer = st.answer;
+    let st = run_all(g, rooms, budget);
+    let actions = Actions {
+        bytes: g.actions,
+        states: g.states,
+        kinds: g.kinds,
+    };
     put_report(
-        Actions {
-            bytes: actions,
-            states: states as usize,
-            kinds: kinds as usize,
-        },
+        actions,
         report,
-        answer,
+        st.answer,
         st.units as u32,
         st.nodes as u32,
         st.children as u32,
         st.records as u32,
     );
     Returned {
-        number: number_of(answer),
-        value: value_of(answer),
+        number: number_of(st.answer),
+        value: value_of(st.answer),
     }
 }
 
@@ -197,21 +156,16 @@ pub fn chamrolak_drive(
             value: 0,
         };
     }
-    answer_all(
-        sizes,
-        actions,
-        gotos,
-        productions,
-        tokens,
-        origin,
-        budget,
+    let depth = depth_of(stack.len(), scratch.len());
+    let g = given(sizes, actions, gotos, productions, tokens, origin, depth);
+    let mut rooms = Rooms {
         stack,
         scratch,
         nodes,
         children,
         records,
-        report,
-    )
+    };
+    answer_all(&g, &mut rooms, report, budget)
 }
 
 // The whole of document 01 in one call: the check, 18, the run.
@@ -235,7 +189,8 @@ pub fn chamrolak_parse(
 ) -> Returned
     ensures { Leaves (call_tables sizes.now actions.now gotos.now productions.now rights.now items.now sets.now) (parse_reply (call_tables sizes.now actions.now gotos.now productions.now rights.now items.now sets.now) tokens.now origin (limits_in (lent stack.old scratch.old nodes.old children.old records.old report.old) budget)) result (lent stack.old scratch.old nodes.old children.old records.old report.old) (lent stack.new scratch.new nodes.new children.new records.new report.new) }
 {
-    match checker::check(sizes, actions, gotos, productions, rights, items, sets) {
+    let tables = Tables::new(sizes, actions, gotos, productions, rights, items, sets);
+    match checker::check(&tables) {
         Ok(()) => chamrolak_drive(
             sizes,
             actions,

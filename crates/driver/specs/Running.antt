@@ -1,13 +1,15 @@
 -- What `step` and `run` of the code need to know of a run: its bounds before and after a step, and that a run is its steps.
-use Rattle.std.specs.Prelude.{true, false, List, ◌≡◌, refl, ℕ, zero, suc, ◌+◌, ◌*◌, ◌-◌, ◌≤◌, ◌<◌, ◌^◌, length}
+use Rattle.std.specs.Prelude.{true, false, ◌≡◌, refl, ℕ, zero, suc, ◌+◌, ◌*◌, ◌≤◌, ◌<◌, ◌^◌, length}
 use Rattle.std.proofs.Common.{ap, ◌∙◌, arith}
 use Rattle.model.specs.declared.St.{St}
 use Rattle.model.specs.Model.{Call, World, counted, step, is_ended, run_from, begin}
 use Rattle.moves.specs.declared.Given.{Given}
-use Rattle.moves.specs.Serving.{Reads, Goes, Acts, world}
+use Rattle.rooms.specs.declared.Rooms.{Rooms}
+use Rattle.rooms.specs.Lent.{Same, world_of}
+use Rattle.moves.specs.Serving.{Reads, Serves}
 use Rattle.moves.specs.Bounds.{Fine, Simulable}
 use Rattle.driver.specs.Kept.{Kept, After, kept_step, kept_begin}
-use Rattle.driver.specs.Served.{call_of, reads_served, goes_served, acts_served}
+use Rattle.driver.specs.Served.{call_of, served}
 
 -- ---- bounds
 
@@ -55,20 +57,20 @@ onward_after C room scratch u g r d c k =
       units_are = k.0.units_are;
     }
 
-module _ (g : Given) (actions gotos productions tokens : List ℕ) where
+module _ (g : Given) where
   abbrev C : Call
-  C = call_of g actions gotos productions tokens
+  C = call_of g
 
   -- what is equal to every served call's step is equal to this one's, which keeps the bounds
-  pub step_onward : (stack scratch nodes children records stack' scratch' nodes' children' records' : List ℕ) (s r : St) →
-      Fine (length stack) g.depth g.count s → Simulable (length stack) (length scratch) g.depth s →
-      s.units + 1 < 2 ^ 32 → ((D : Call) → Reads D tokens g → Goes D gotos productions g → Acts D actions g →
-      world stack' scratch' nodes' children' records' r ≡ step D (world stack scratch nodes children records s)) →
-      Onward (length stack) (length scratch) g (s.units + 1) r
-  step_onward stack scratch nodes children records stack' scratch' nodes' children' records' s r f m h e =
-      let w : World = world stack scratch nodes children records s in
-      let k : Kept C (length stack)
-      (length scratch) 0 s.units s = record {
+  pub step_onward : (rooms rooms' : Rooms) (s r : St) → Fine (length rooms.stack.now) g.depth g.count s →
+      Simulable (length rooms.stack.now) (length rooms.scratch.now) g.depth s → s.units + 1 < 2 ^ 32 →
+      ((D : Call) → Serves D g → world_of rooms' r ≡ step D (world_of rooms s)) →
+      Onward (length rooms.stack.now) (length rooms.scratch.now) g (s.units + 1) r
+  step_onward rooms rooms' s r f m h e =
+      let room : ℕ = length rooms.stack.now in
+      let scratch : ℕ = length rooms.scratch.now in
+      let w : World = world_of rooms s in
+      let k : Kept C room scratch 0 s.units s = record {
         depth_in = f.depth_in;
         simulated_in = m.depth_in;
         height_in = f.height_in;
@@ -81,25 +83,23 @@ module _ (g : Given) (actions gotos productions tokens : List ℕ) where
         units_are = refl;
         next_in = f.next_in;
       } in
-      let q : r ≡ (step C w).st = ap (λ (o : World). o.st) (e C (reads_served g actions gotos productions tokens)
-      (goes_served g actions gotos productions tokens) (acts_served g actions gotos productions tokens)) in
-      rw q (onward_after C (length stack) (length scratch)
-      (s.units + 1) g (step C w).st refl refl (kept_step C (length stack) (length scratch) s.units w (k, f.within) h))
+      let q : r ≡ (step C w).st = ap (λ (o : World). o.st) (e C (served g)) in
+      rw q (onward_after C room scratch (s.units + 1) g (step C w).st refl refl (kept_step C room scratch s.units w (k, f.within) h))
 
   pub begin_onward : (room scratch : ℕ) (r : St) → 32 * g.depth ≤ room → 4 * g.depth ≤ scratch → ((D : Call) →
-      Reads D tokens g → r ≡ begin D) → Onward room scratch g 0 r
+      Reads D g → r ≡ begin D) → Onward room scratch g 0 r
   begin_onward room scratch r h k e =
-      rw (e C (reads_served g actions gotos productions tokens))
+      rw (e C (served g).reads)
       (onward_after C room scratch 0 g (begin C) refl refl (kept_begin C room scratch h k))
 
 -- ---- a run is its steps
 
-pub run_turn : (C : Call) (n : ℕ) (w w' v : World) → 0 < n → is_ended w.st.mode ≡ false → w' ≡ step C w → run_from C n w ≡
-    v → run_from C (n - 1) w' ≡ v
+pub run_turn : (C : Call) (n m : ℕ) (w w' v : World) → n ≡ m + 1 → is_ended w.st.mode ≡ false → w' ≡ step C w →
+    run_from C n w ≡ v → run_from C m w' ≡ v
 unfolding run_from
-run_turn C zero w w' v h e s q = absurd (omega arith)
-run_turn C (suc n) w w' v h e s q =
-    let m : suc n - 1 ≡ n = omega arith in rw (m, s) (rw (e, run_from) at q)
+run_turn C zero m w w' v h e s q = absurd (omega arith)
+run_turn C (suc n) m w w' v h e s q =
+    let k : m ≡ n = omega arith in rw (k, s) (rw (e, run_from) at q)
 
 pub run_ended : (C : Call) (n : ℕ) (w : World) → is_ended w.st.mode ≡ true → run_from C n w ≡ w
 unfolding run_from
@@ -110,46 +110,41 @@ pub run_none : (C : Call) (n : ℕ) (w : World) → n ≡ 0 → run_from C n w �
 unfolding run_from
 run_none C n w e = rw e
 
--- The invariant of a run: the rooms keep their lengths, the bounds hold, and what is left to run gives the whole.
-pub record Going (g : Given) (actions gotos productions tokens stack₀ scratch₀ nodes₀ children₀ records₀ : List ℕ) (s₀ : St)
-    (budget : ℕ) (stack scratch nodes children records : List ℕ) (s : St) (left : ℕ) : Type 0 where
-  pub stack_long : length stack ≡ length stack₀
-  pub scratch_long : length scratch ≡ length scratch₀
-  pub nodes_long : length nodes ≡ length nodes₀
-  pub children_long : length children ≡ length children₀
-  pub records_long : length records ≡ length records₀
-  pub fine : Fine (length stack) g.depth g.count s
-  pub simulable : Simulable (length stack) (length scratch) g.depth s
+-- The invariant of a run: the rooms stay the caller's, the bounds hold, and what is left to run gives the whole.
+pub record Going (g : Given) (rooms₀ : Rooms) (s₀ : St) (budget : ℕ) (rooms : Rooms) (s : St) (left : ℕ) : Type 0 where
+  pub same : Same rooms₀ rooms
+  pub fine : Fine (length rooms.stack.now) g.depth g.count s
+  pub simulable : Simulable (length rooms.stack.now) (length rooms.scratch.now) g.depth s
   pub budget_left : s.units + left < 2 ^ 32
-  pub rest : (C : Call) → Reads C tokens g → Goes C gotos productions g → Acts C actions g →
-      run_from C left (world stack scratch nodes children records s) ≡
-      run_from C budget (world stack₀ scratch₀ nodes₀ children₀ records₀ s₀)
+  pub rest : (C : Call) → Serves C g → run_from C left (world_of rooms s) ≡ run_from C budget (world_of rooms₀ s₀)
 
-module _ (g : Given) (actions gotos productions tokens stack₀ scratch₀ nodes₀ children₀ records₀ : List ℕ) (s₀ : St)
-    (budget : ℕ) (stack scratch nodes children records : List ℕ) (s : St) (left : ℕ)
-    (stack' scratch' nodes' children' records' : List ℕ) (r : St) where
-  pub going_on : Going g actions gotos productions tokens stack₀ scratch₀ nodes₀ children₀ records₀ s₀ budget stack scratch
-      nodes children records s left → 0 < left → is_ended s.mode ≡ false → length stack' ≡ length stack → length scratch' ≡
-      length scratch → length nodes' ≡ length nodes → length children' ≡ length children → length records' ≡ length records →
-      ((C : Call) → Reads C tokens g → Goes C gotos productions g → Acts C actions g →
-      world stack' scratch' nodes' children' records' r ≡ step C (world stack scratch nodes children records s)) →
-      Going g actions gotos productions tokens stack₀ scratch₀ nodes₀ children₀ records₀ s₀ budget stack' scratch' nodes'
-      children' records' r (left - 1)
-  going_on k h e l₁ l₂ l₃ l₄ l₅ q =
-      let o : Onward (length stack)
-      (length scratch) g (s.units + 1) r = step_onward g actions gotos productions tokens stack scratch nodes children
-      records stack' scratch' nodes' children' records' s r k.fine k.simulable (omega arith) q in
+same_again : (a b c : Rooms) → Same a b → Same b c → Same a c
+same_again a b c p q =
+    record {
+      stack = q.stack ∙ p.stack;
+      scratch = q.scratch ∙ p.scratch;
+      nodes = q.nodes ∙ p.nodes;
+      children = q.children ∙ p.children;
+      records = q.records ∙ p.records;
+      stack_long = q.stack_long ∙ p.stack_long;
+      scratch_long = q.scratch_long ∙ p.scratch_long;
+      nodes_long = q.nodes_long ∙ p.nodes_long;
+      children_long = q.children_long ∙ p.children_long;
+      records_long = q.records_long ∙ p.records_long;
+    }
+
+module _ (g : Given) (rooms₀ : Rooms) (s₀ : St) (budget : ℕ) (rooms : Rooms) (s : St) (left : ℕ) (rooms' : Rooms) (r : St) (left' : ℕ) where
+  pub going_on : Going g rooms₀ s₀ budget rooms s left → left ≡ left' + 1 → is_ended s.mode ≡ false → Same rooms rooms' →
+      ((C : Call) → Serves C g → world_of rooms' r ≡ step C (world_of rooms s)) → Going g rooms₀ s₀ budget rooms' r left'
+  going_on k h e l q =
+      let o : Onward (length rooms.stack.now) (length rooms.scratch.now) g (s.units + 1) r =
+      step_onward g rooms rooms' s r k.fine k.simulable (omega arith) q in
       record {
-        stack_long = l₁ ∙ k.stack_long;
-        scratch_long = l₂ ∙ k.scratch_long;
-        nodes_long = l₃ ∙ k.nodes_long;
-        children_long = l₄ ∙ k.children_long;
-        records_long = l₅ ∙ k.records_long;
-        fine = rw l₁ o.fine;
-        simulable = rw (l₁, l₂) o.simulable;
+        same = same_again rooms₀ rooms rooms' k.same l;
+        fine = rw l.stack_long o.fine;
+        simulable = rw (l.stack_long, l.scratch_long) o.simulable;
         budget_left = let u : r.units ≡ s.units + 1 = o.units_are in let b : s.units + left < 2 ^ 32 = k.budget_left in
             omega arith;
-        rest = λ C m n a. run_turn C left (world stack scratch nodes children records s)
-            (world stack' scratch' nodes' children' records' r)
-            (run_from C budget (world stack₀ scratch₀ nodes₀ children₀ records₀ s₀)) h e (q C m n a) (k.rest C m n a);
+        rest = λ C m. run_turn C left left' (world_of rooms s) (world_of rooms' r) (run_from C budget (world_of rooms₀ s₀)) h e
+            (q C m) (k.rest C m);
       }

@@ -5,35 +5,35 @@ use Rattle.words.specs.Words.{pick, word16, get16}
 use Rattle.rules.specs.Tables.{states, kinds, nonterminals, flag}
 use Rattle.model.specs.Model.{Call}
 use Rattle.moves.specs.declared.Given.{Given}
-use Rattle.moves.specs.Serving.{Reads, Goes, Acts}
+use Rattle.moves.specs.Serving.{Serves}
 
 abbrev pub sizes_of : Given → List ℕ
 sizes_of g =
     g.states % 256 ∷ g.states / 256 ∷ g.kinds % 256 ∷ g.kinds / 256 ∷ g.nonterminals % 256 ∷ g.nonterminals / 256
     ∷ 0 ∷ 0 ∷ 0 ∷ 0 ∷ pick g.recovers 1 0 ∷ 0 ∷ []
 
-abbrev pub call_of : Given → List ℕ → List ℕ → List ℕ → List ℕ → Call
-call_of g actions gotos productions tokens =
+abbrev pub call_of : Given → Call
+call_of g =
     record {
       tables = record {
         sizes = sizes_of g;
-        actions = actions;
-        gotos = gotos;
-        productions = productions;
+        actions = g.actions.now;
+        gotos = g.gotos.now;
+        productions = g.productions.now;
         rights = [];
         items =
             [];
         sets = [];
       };
-      tokens = tokens;
+      tokens = g.tokens.now;
       count = g.count;
       origin = g.origin;
       depth = g.depth;
     }
 
-module _ (g : Given) (actions gotos productions tokens : List ℕ) where
+module _ (g : Given) where
   abbrev C : Call
-  C = call_of g actions gotos productions tokens
+  C = call_of g
 
   states_back : states C.tables ≡ g.states
   unfolding states word16 get16
@@ -55,21 +55,22 @@ module _ (g : Given) (actions gotos productions tokens : List ℕ) where
   unfolding flag word16 get16
   flag_back = bit_back g.recovers
 
-  pub reads_served : Reads C tokens g
-  reads_served =
+  pub served : Serves C g
+  served =
       record {
-        tokens_are = refl;
-        count_is = refl;
-        origin_is = refl;
-        depth_is = refl;
-        kinds_are = kinds_back;
-        flag_is =
-            flag_back;
+        reads = record {
+          tokens_are = refl;
+          count_is = refl;
+          origin_is = refl;
+          depth_is = refl;
+          kinds_are = kinds_back;
+          flag_is = flag_back;
+        };
+        goes = record {
+          gotos_are = refl;
+          productions_are = refl;
+          states_are = states_back;
+          nonterminals_are = nonterminals_back;
+        };
+        acts = record { actions_are = refl; states_are = states_back; kinds_are = kinds_back };
       }
-
-  pub goes_served : Goes C gotos productions g
-  goes_served =
-      record { gotos_are = refl; productions_are = refl; states_are = states_back; nonterminals_are = nonterminals_back }
-
-  pub acts_served : Acts C actions g
-  acts_served = record { actions_are = refl; states_are = states_back; kinds_are = kinds_back }

@@ -4,28 +4,24 @@
 
 ghost use Rattle.std.specs.Prelude.{List, ◌≡◌, ℕ, ◌+◌, ◌*◌, ◌-◌, ◌/◌, ◌≤◌, ◌<◌, ◌^◌, min, length};
 ghost use Rattle.model.specs.Model.{Call, has_token, formed_at, fail, first_st, begin, step, is_ended, run_from};
-ghost use Rattle.moves.specs.Serving.{Reads, Goes, Acts, world};
-ghost use Rattle.moves.specs.Bounds.{Small, Fine, Simulable};
+ghost use Rattle.rooms.specs.Lent.{Same, world_of};
+ghost use Rattle.moves.specs.Serving.{Reads, Serves, world};
+ghost use Rattle.moves.specs.Bounds.{Small, Safe, Simulable};
 ghost use Rattle.looks.specs.Deciding.{on_act, Sure};
 
 use looks::{Act, decide};
 use model::{Mode, St};
-use moves::{Given, arrive, counted, ended, fail, further, searching};
+use moves::{Given, arrive, counted, ended, fail, further, lookahead, searching};
 use pushes::{reduce, shift};
 use recovery::{recover, simulate_on};
-use rooms::top_at;
+use rooms::{Rooms, top_at};
 use rules::{Answer, Formed, StateNo};
 
 // "State 0 starts": nothing is on the stack, and nothing is written.
+#[tactic(auto, unfolding(model::specs::Model::first_st))]
 fn first_st(origin: u32) -> St
     ensures { (result.next ≡ 0) × ((C : Call) → C.origin ≡ origin → result ≡ first_st C) }
 {
-    let formed = Formed {
-        number: 0,
-        at: 0,
-        from: 0,
-        top: StateNo(0),
-    };
     St {
         height: 0,
         nodes: 0,
@@ -35,7 +31,12 @@ fn first_st(origin: u32) -> St
         next: 0,
         last: origin,
         mode: Mode::Main,
-        formed,
+        formed: Formed {
+            number: 0,
+            at: 0,
+            from: 0,
+            top: StateNo(0),
+        },
         popped: 0,
         base: 0,
         pushed: 0,
@@ -43,55 +44,48 @@ fn first_st(origin: u32) -> St
     }
 }
 
-fn read_first(tokens: &[u8], g: Given, st: St) -> St
+#[tactic(auto, using(moves::specs::Serving::depth_fits_law, moves::specs::Serving::too_deep), unfolding(model::specs::Model::begin))]
+fn read_first(g: &Given, st: St) -> St
     requires { st.next < 2 ^ 32 }
-    ensures { (C : Call) → Reads C tokens.now g → st ≡ first_st C → result ≡ begin C }
+    ensures { (C : Call) → Reads C g.now → st ≡ first_st C → result ≡ begin C }
 {
-    let depth = g.depth;
-    if depth < 1 {
+    if g.depth < 1 {
         return ended(st, Answer::OutOfDepth);
     }
-    arrive(tokens, g, st, 0)
+    arrive(g, st, 0)
 }
 
 // "Depth 0 is 20 at unit 0, after 10 to 18 and before all else."
-pub fn begin(tokens: &[u8], g: Given) -> St
-    ensures { (C : Call) → Reads C tokens.now g → result ≡ begin C }
+pub fn begin(g: &Given) -> St
+    ensures { (C : Call) → Reads C g.now → result ≡ begin C }
 {
-    let origin = g.origin;
-    read_first(tokens, g, first_st(origin))
+    read_first(g, first_st(g.origin))
 }
 
 // "3 unrecognized token: token, expected. 4 unrecognized end: last location, expected."
-fn formed_at(g: Given, stack: &[u8], st: St) -> Formed
+#[tactic(auto, using(moves::specs::Serving::has_token_law, moves::specs::Serving::no_token_law), unfolding(model::specs::Model::formed_at))]
+fn formed_at(g: &Given, stack: &[u8], st: St) -> Formed
     requires { (st.next < 2 ^ 32) × (32 * st.height ≤ length stack.now) }
-    ensures { (C : Call) (tokens scratch nodes children records : List ℕ) → Reads C tokens g → result ≡
+    ensures { (C : Call) (scratch nodes children records : List ℕ) → Reads C g.now → result ≡
         formed_at (world stack.now scratch nodes children records st) (has_token C st) }
 {
-    let next = st.next;
-    let last = st.last;
-    let count = g.count;
-    let height = st.height;
-    let top = StateNo(top_at(stack, height));
-    if next < count {
-        return Formed {
-            number: 3,
-            at: next as u32,
-            from: next as u32,
-            top,
-        };
-    }
+    let from = st.next as u32;
+    let top = StateNo(top_at(stack, st.height));
+    let (number, at) = match lookahead(g, st) {
+        Some(_) => (3, from),
+        None => (4, st.last),
+    };
     Formed {
-        number: 4,
-        at: last,
-        from: next as u32,
+        number,
+        at,
+        from,
         top,
     }
 }
 
-fn fail_now(g: Given, stack: &[u8], st: St) -> St
+fn fail_now(g: &Given, stack: &[u8], st: St) -> St
     requires { (st.next < 2 ^ 32) × (32 * st.height ≤ length stack.now) }
-    ensures { (C : Call) (tokens scratch nodes children records : List ℕ) → Reads C tokens g →
+    ensures { (C : Call) (scratch nodes children records : List ℕ) → Reads C g.now →
         world stack.now scratch nodes children records result ≡
         fail C (world stack.now scratch nodes children records st)
         (formed_at (world stack.now scratch nodes children records st) (has_token C st)) }
@@ -100,194 +94,76 @@ fn fail_now(g: Given, stack: &[u8], st: St) -> St
 }
 
 // What a look decided is done. Each act has one place, so that the whole step is one function of the machine's code.
-fn perform(
-    actions: &[u8],
-    gotos: &[u8],
-    productions: &[u8],
-    tokens: &[u8],
-    g: Given,
-    stack: &mut [u8],
-    scratch: &mut [u8],
-    nodes: &mut [u8],
-    children: &mut [u8],
-    records: &mut [u8],
-    st: St,
-    act: Act,
-) -> St
-    requires { Small g × Fine (length stack.old) g.depth g.count st × (4 * g.depth ≤ length scratch.old) ×
-        Sure g st act }
-    ensures { (C : Call) → Reads C tokens.now g → Goes C gotos.now productions.now g →
-        Acts C actions.now g → world stack.new scratch.new nodes.new
-        children.new records.new result ≡ on_act C (world stack.old scratch.old
-        nodes.old children.old records.old st) act }
+#[tactic(auto, unfolding(looks::specs::Deciding::on_act))]
+fn perform(g: &Given, rooms: &mut Rooms, st: St, act: Act) -> St
+    requires { Safe g.now rooms.old.stack.now st × (4 * g.now.depth ≤ length rooms.old.scratch.now) ×
+        Sure g.now st act }
+    ensures same { Same rooms.old rooms.new }
+    ensures performs { (C : Call) → Serves C g.now → world_of rooms.new result ≡ on_act C (world_of rooms.old st) act }
 {
     match act {
-        Act::ShiftTo(to) => shift(tokens, g, stack, nodes, st, to),
-        Act::ReduceBy(p) => reduce(gotos, productions, tokens, g, stack, nodes, children, st, p),
+        Act::ShiftTo(to) => shift(g, rooms, st, to),
+        Act::ReduceBy(p) => reduce(g, rooms, st, p),
         Act::EndWith(answer) => ended(st, answer),
-        Act::FailNow => fail_now(g, stack, st),
+        Act::FailNow => fail_now(g, &mut *rooms.stack, st),
         Act::SearchTop => searching(st, 0),
-        Act::LookFurther => further(tokens, g, stack, st),
-        Act::SimulateFrom(base, pushed, s) => simulate_on(g, scratch, st, base, pushed, s),
-        Act::Recover => recover(actions, tokens, g, stack, nodes, records, st),
+        Act::LookFurther => further(g, &mut *rooms.stack, st),
+        Act::SimulateFrom(base, pushed, s) => simulate_on(g, rooms.scratch, st, base, pushed, s),
+        Act::Recover => recover(g, rooms, st),
         Act::Stay => st,
     }
 }
 
 // "One unit is one look at an action cell": the look is counted, whatever comes of it.
-pub fn step(
-    actions: &[u8],
-    gotos: &[u8],
-    productions: &[u8],
-    tokens: &[u8],
-    g: Given,
-    stack: &mut [u8],
-    scratch: &mut [u8],
-    nodes: &mut [u8],
-    children: &mut [u8],
-    records: &mut [u8],
-    st: St,
-) -> St
-    requires { Small g × Fine (length stack.old) g.depth g.count st × Simulable (length stack.old)
-        (length scratch.old) g.depth st × (st.units + 1 < 2 ^ 32) }
-    ensures { (C : Call) → Reads C tokens.now g → Goes C gotos.now productions.now g →
-        Acts C actions.now g → world stack.new scratch.new nodes.new
-        children.new records.new result ≡ step C (world stack.old scratch.old
-        nodes.old children.old records.old st) }
+#[tactic(auto, using(crate::specs::Running::fine_counted, crate::specs::Running::simulable_counted), unfolding(model::specs::Model::step))]
+pub fn step(g: &Given, rooms: &mut Rooms, st: St) -> St
+    requires { Safe g.now rooms.old.stack.now st × Simulable (length rooms.old.stack.now)
+        (length rooms.old.scratch.now) g.now.depth st × (st.units + 1 < 2 ^ 32) }
+    ensures same { Same rooms.old rooms.new }
+    ensures steps { (C : Call) → Serves C g.now → world_of rooms.new result ≡ step C (world_of rooms.old st) }
 {
-    let mode = st.mode;
     let s = counted(st);
-    let act = decide(
-        actions,
-        gotos,
-        productions,
-        tokens,
-        g,
-        stack,
-        scratch,
-        s,
-        mode,
-    );
-    perform(
-        actions,
-        gotos,
-        productions,
-        tokens,
-        g,
-        stack,
-        scratch,
-        nodes,
-        children,
-        records,
-        s,
-        act,
-    )
+    let stack = &mut *rooms.stack;
+    let scratch = &mut *rooms.scratch;
+    let act = decide(g, stack, scratch, s, st.mode);
+    perform(g, rooms, s, act)
 }
 
 fn is_ended(mode: Mode) -> bool
     ensures { result ≡ is_ended mode }
 {
-    match mode {
-        Mode::Main => false,
-        Mode::Column => false,
-        Mode::Search => false,
-        Mode::Simulate => false,
-        Mode::Ended => true,
-    }
+    matches!(mode, Mode::Ended)
 }
 
 // "19 is given exactly if another is needed": that is the answer that a run has while it has not ended.
-pub fn run(
-    actions: &[u8],
-    gotos: &[u8],
-    productions: &[u8],
-    tokens: &[u8],
-    g: Given,
-    stack: &mut [u8],
-    scratch: &mut [u8],
-    nodes: &mut [u8],
-    children: &mut [u8],
-    records: &mut [u8],
-    st: St,
-    budget: u32,
-) -> St
-    requires { Small g × Fine (length stack.old) g.depth g.count st × Simulable (length stack.old)
-        (length scratch.old) g.depth st × (st.units + budget < 2 ^ 32) }
-    ensures { (C : Call) → Reads C tokens.now g → Goes C gotos.now productions.now g →
-        Acts C actions.now g → world stack.new scratch.new nodes.new
-        children.new records.new result ≡ run_from C budget (world stack.old scratch.old
-        nodes.old children.old records.old st) }
+pub fn run(g: &Given, rooms: &mut Rooms, st: St, budget: u32) -> St
+    requires { Safe g.now rooms.old.stack.now st × Simulable (length rooms.old.stack.now)
+        (length rooms.old.scratch.now) g.now.depth st × (st.units + budget < 2 ^ 32) }
+    ensures same { Same rooms.old rooms.new }
+    ensures runs { (C : Call) → Serves C g.now → world_of rooms.new result ≡ run_from C budget (world_of rooms.old st) }
 {
     let mut s = st;
-    let mut left = budget;
-    while 0 < left {
-        let mode = s.mode;
-        if is_ended(mode) {
+    for _ in 0..budget {
+        if is_ended(s.mode) {
             return s;
         }
-        s = step(
-            actions,
-            gotos,
-            productions,
-            tokens,
-            g,
-            stack,
-            scratch,
-            nodes,
-            children,
-            records,
-            s,
-        );
-        left -= 1;
+        s = step(g, rooms, s);
     }
     s
 }
 
 // `Parser::drive` of the Rust: a run from its beginning.
-pub fn drive(
-    actions: &[u8],
-    gotos: &[u8],
-    productions: &[u8],
-    tokens: &[u8],
-    g: Given,
-    stack: &mut [u8],
-    scratch: &mut [u8],
-    nodes: &mut [u8],
-    children: &mut [u8],
-    records: &mut [u8],
-    budget: u32,
-) -> St
-    requires { Small g × (32 * g.depth ≤ length stack.old) × (4 * g.depth ≤ length scratch.old) }
-    ensures { (C : Call) → Reads C tokens.now g → Goes C gotos.now productions.now g →
-        Acts C actions.now g → world stack.new scratch.new nodes.new
-        children.new records.new result ≡ run_from C budget (world stack.old scratch.old
-        nodes.old children.old records.old (begin C)) }
+pub fn drive(g: &Given, rooms: &mut Rooms, budget: u32) -> St
+    requires { Small g.now × (32 * g.now.depth ≤ length rooms.old.stack.now) × (4 * g.now.depth ≤ length rooms.old.scratch.now) }
+    ensures same { Same rooms.old rooms.new }
+    ensures drives { (C : Call) → Serves C g.now → world_of rooms.new result ≡ run_from C budget (world_of rooms.old (begin C)) }
 {
-    let st = begin(tokens, g);
-    run(
-        actions,
-        gotos,
-        productions,
-        tokens,
-        g,
-        stack,
-        scratch,
-        nodes,
-        children,
-        records,
-        st,
-        budget,
-    )
+    run(g, rooms, begin(g), budget)
 }
 
 // "its limit is the shorter of stack and scratch room", in whole entries.
 pub fn depth_of(stack: usize, scratch: usize) -> usize
     ensures { (result ≡ min (stack / 32) (scratch / 4)) × (32 * result ≤ stack) × (4 * result ≤ scratch) }
 {
-    let a = stack / 32;
-    let b = scratch / 4;
-    if a <= b {
-        return a;
-    }
-    b
+    (stack / 32).min(scratch / 4)
 }

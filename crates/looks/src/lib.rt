@@ -9,16 +9,16 @@ ghost use Rattle.rules.specs.Tables.{action};
 ghost use Rattle.model.specs.declared.Mode.TheVariants.{Main, Column, Search, Simulate};
 ghost use Rattle.model.specs.Bytes.{node_at};
 ghost use Rattle.model.specs.Model.{Call, has_token, look_column, main_look, main_reduce, column_reduce, simulate_reduce, look};
-ghost use Rattle.moves.specs.Serving.{Reads, Goes, Acts, world};
-ghost use Rattle.moves.specs.Bounds.{Small, Fine, Simulable, Within};
+ghost use Rattle.moves.specs.Serving.{Reads, Goes, Acts, Serves, world};
+ghost use Rattle.moves.specs.Bounds.{Small, Safe, Simulable, Within};
 ghost use Rattle.moves.specs.declared.Given.{Given};
 ghost use Rattle.looks.specs.Deciding.{on_act, Sure};
 
 use model::{Mode, St};
-use moves::Given;
+use moves::{Given, lookahead};
 use pushes::goto_state;
 use recovery::error_cell;
-use rooms::{node_at, sim_top, token_kind, top_at};
+use rooms::{sim_top, symbol_at, top_at};
 use rules::{Answer, Cell, ProdNo, StateNo};
 use tables::{cell_in, size};
 
@@ -37,28 +37,31 @@ pub enum Act {
 }
 
 // The lookahead's column: "t+1 is end of input".
-fn look_column(tokens: &[u8], g: Given, st: St) -> usize
-    requires { Small g × (st.next < 2 ^ 32) }
-    ensures { (C : Call) → Reads C tokens.now g → result ≡ look_column C st }
+#[tactic(auto, using(moves::specs::Serving::has_token_law, moves::specs::Serving::no_token_law), unfolding(model::specs::Model::look_column))]
+fn look_column(g: &Given, st: St) -> usize
+    requires { Small g.now × (st.next < 2 ^ 32) }
+    ensures { (C : Call) → Reads C g.now → result ≡ look_column C st }
 {
-    let next = st.next;
-    let count = g.count;
-    if next < count {
-        return token_kind(tokens, next) as usize;
+    match lookahead(g, st) {
+        Some(token) => token.kind as usize,
+        None => g.kinds + 1,
     }
-    g.kinds + 1
 }
 
 // The cell of a state under the lookahead.
-fn cell_under(actions: &[u8], tokens: &[u8], g: Given, st: St, top: u32) -> Cell
-    requires { Small g × (st.next < 2 ^ 32) }
-    ensures { (C : Call) → Reads C tokens.now g → Acts C actions.now g → result ≡
+#[tactic(auto, using(moves::specs::Serving::action_is))]
+fn cell_under(g: &Given, st: St, top: u32) -> Cell
+    requires { Small g.now × (st.next < 2 ^ 32) }
+    ensures { (C : Call) → Reads C g.now → Acts C g.now → result ≡
         action C.tables top (look_column C st) }
 {
-    let states = g.states;
-    let kinds = g.kinds;
-    let column = look_column(tokens, g, st);
-    cell_in(actions, states, kinds + 2, top as usize, column)
+    cell_in(
+        g.actions,
+        g.states,
+        g.kinds + 2,
+        top as usize,
+        look_column(g, st),
+    )
 }
 
 // The node of the only symbol over which production 0 is reduced.
@@ -69,63 +72,63 @@ fn root_at(stack: &[u8], height: usize) -> u32
     if height == 0 {
         return 0;
     }
-    node_at(stack, height - 1)
+    symbol_at(stack, height - 1).node
 }
 
 // At the end of input, `parse_eof` of the Rust, a shift is no shift.
-fn main_shift(g: Given, st: St, to: StateNo) -> Act
-    ensures { Sure g st result × ((C : Call) (tokens stack scratch nodes children records : List ℕ) → Reads C tokens g →
+#[tactic(auto, using(moves::specs::Serving::has_token_law, moves::specs::Serving::no_token_law), unfolding(model::specs::Model::main_look, crate::specs::Deciding::on_act))]
+fn main_shift(g: &Given, st: St, to: StateNo) -> Act
+    ensures sure { Sure g.now st result }
+    ensures decides { (C : Call) (stack scratch nodes children records : List ℕ) → Reads C g.now →
         main_look C (world stack scratch nodes children records st) (has_token C st) (Shift to) ≡
-        on_act C (world stack scratch nodes children records st) result) }
+        on_act C (world stack scratch nodes children records st) result }
 {
-    let next = st.next;
-    let count = g.count;
-    if next < count {
+    if st.next < g.count {
         return Act::ShiftTo(to);
     }
     Act::FailNow
 }
 
 // "Production 0 under a lookahead token in the main loop is answer 5."
-fn main_accept(g: Given, stack: &[u8], st: St) -> Act
+#[tactic(auto, using(moves::specs::Serving::has_token_law, moves::specs::Serving::no_token_law), unfolding(model::specs::Model::main_reduce, model::specs::Model::root_at, crate::specs::Deciding::on_act))]
+fn main_accept(g: &Given, stack: &[u8], st: St) -> Act
     requires { (st.next < 2 ^ 32) × (32 * st.height ≤ length stack.now) }
-    ensures { Sure g st result × ((C : Call) (tokens scratch nodes children records : List ℕ) → Reads C tokens g →
+    ensures sure { Sure g.now st result }
+    ensures decides { (C : Call) (scratch nodes children records : List ℕ) → Reads C g.now →
         main_reduce C (world stack.now scratch nodes children records st) (has_token C st) 0 ≡
-        on_act C (world stack.now scratch nodes children records st) result) }
+        on_act C (world stack.now scratch nodes children records st) result }
 {
-    let next = st.next;
-    let count = g.count;
-    let height = st.height;
-    if next < count {
-        return Act::EndWith(Answer::ExtraToken(next as u32));
+    match lookahead(g, st) {
+        Some(_) => Act::EndWith(Answer::ExtraToken(st.next as u32)),
+        None => Act::EndWith(Answer::Accepted(root_at(stack, st.height))),
     }
-    Act::EndWith(Answer::Accepted(root_at(stack, height)))
 }
 
 // "reducing it accepts, and builds no node"
-fn main_reduce(g: Given, stack: &[u8], st: St, p: ProdNo) -> Act
+#[tactic(auto, using(crate::specs::Cases::main_more), unfolding(crate::specs::Deciding::on_act))]
+fn main_reduce(g: &Given, stack: &[u8], st: St, p: ProdNo) -> Act
     requires { (st.next < 2 ^ 32) × (32 * st.height ≤ length stack.now) }
-    ensures { Sure g st result × ((C : Call) (tokens scratch nodes children records : List ℕ) → Reads C tokens g →
+    ensures sure { Sure g.now st result }
+    ensures decides { (C : Call) (scratch nodes children records : List ℕ) → Reads C g.now →
         main_reduce C (world stack.now scratch nodes children records st) (has_token C st) p.0 ≡
-        on_act C (world stack.now scratch nodes children records st) result) }
+        on_act C (world stack.now scratch nodes children records st) result }
 {
-    let number = p.0;
-    if number == 0 {
+    if p.0 == 0 {
         return main_accept(g, stack, st);
     }
     Act::ReduceBy(p)
 }
 
 // A look of the main loop.
-pub fn main_look(actions: &[u8], tokens: &[u8], g: Given, stack: &[u8], st: St) -> Act
-    requires { Small g × Fine (length stack.now) g.depth g.count st }
-    ensures { Sure g st result × ((C : Call) (scratch nodes children records : List ℕ) → Reads C tokens.now g →
-        Acts C actions.now g → look C (world stack.now scratch nodes children records st) Main ≡
-        on_act C (world stack.now scratch nodes children records st) result) }
+#[tactic(auto, using(crate::specs::Cases::main_reduces, crate::specs::Cases::main_fails), unfolding(model::specs::Model::look, crate::specs::Deciding::on_act))]
+pub fn main_look(g: &Given, stack: &[u8], st: St) -> Act
+    requires { Safe g.now stack.now st }
+    ensures sure { Sure g.now st result }
+    ensures decides { (C : Call) (scratch nodes children records : List ℕ) → Reads C g.now →
+        Acts C g.now → look C (world stack.now scratch nodes children records st) Main ≡
+        on_act C (world stack.now scratch nodes children records st) result }
 {
-    let height = st.height;
-    let cell = cell_under(actions, tokens, g, st, top_at(stack, height));
-    match cell {
+    match cell_under(g, st, top_at(stack, st.height)) {
         Cell::Shift(to) => main_shift(g, st, to),
         Cell::Reduce(p) => main_reduce(g, stack, st, p),
         Cell::Error => Act::FailNow,
@@ -133,171 +136,117 @@ pub fn main_look(actions: &[u8], tokens: &[u8], g: Given, stack: &[u8], st: St) 
 }
 
 // "If production 0 is reached there, answer 2, as the Rust's success."
+#[tactic(auto, using(crate::specs::Cases::column_more), unfolding(model::specs::Model::column_reduce, model::specs::Model::root_at, crate::specs::Deciding::on_act))]
 fn column_reduce(stack: &[u8], st: St, p: ProdNo) -> Act
     requires { 32 * st.height ≤ length stack.now }
-    ensures { ((g : Given) → Sure g st result) × ((C : Call) (scratch nodes children records : List ℕ) →
+    ensures sure { (g : Given) → Sure g st result }
+    ensures decides { (C : Call) (scratch nodes children records : List ℕ) →
         column_reduce C (world stack.now scratch nodes children records st) p.0 ≡
-        on_act C (world stack.now scratch nodes children records st) result) }
+        on_act C (world stack.now scratch nodes children records st) result }
 {
-    let number = p.0;
-    let height = st.height;
-    let formed = st.formed;
-    let from = formed.from;
-    if number == 0 {
-        return Act::EndWith(Answer::AcceptedEarly(root_at(stack, height), from));
+    if p.0 == 0 {
+        return Act::EndWith(Answer::AcceptedEarly(root_at(stack, st.height), st.formed.from));
     }
     Act::ReduceBy(p)
 }
 
 // "then reduce by the error column until its cell is no reduce": only then is the stack searched.
-pub fn column_look(actions: &[u8], g: Given, stack: &[u8], st: St) -> Act
-    requires { Small g × Fine (length stack.now) g.depth g.count st }
-    ensures { Sure g st result × ((C : Call) (scratch nodes children records : List ℕ) → Acts C actions.now g →
+#[tactic(auto, unfolding(model::specs::Model::look, model::specs::Model::column_look, crate::specs::Deciding::on_act))]
+pub fn column_look(g: &Given, stack: &[u8], st: St) -> Act
+    requires { Safe g.now stack.now st }
+    ensures sure { Sure g.now st result }
+    ensures decides { (C : Call) (scratch nodes children records : List ℕ) → Acts C g.now →
         look C (world stack.now scratch nodes children records st) Column ≡
-        on_act C (world stack.now scratch nodes children records st) result) }
+        on_act C (world stack.now scratch nodes children records st) result }
 {
-    let height = st.height;
-    let cell = error_cell(actions, g, stack, height);
-    match cell {
-        Cell::Shift(_) => Act::SearchTop,
+    match error_cell(g, stack, st.height) {
         Cell::Reduce(p) => column_reduce(stack, st, p),
-        Cell::Error => Act::SearchTop,
+        Cell::Shift(_) | Cell::Error => Act::SearchTop,
     }
 }
 
 // "Then look at states from the top down. If the error cell is not a shift, look further down. Otherwise simulate the lookahead
 // above that shift".
-pub fn search_look(actions: &[u8], g: Given, stack: &[u8], st: St) -> Act
-    requires { Small g × Fine (length stack.now) g.depth g.count st × (st.popped ≤ st.height) }
-    ensures { Sure g st result × ((C : Call) (scratch nodes children records : List ℕ) → Acts C actions.now g →
+#[tactic(auto, unfolding(model::specs::Model::look, model::specs::Model::search_look, crate::specs::Deciding::on_act))]
+pub fn search_look(g: &Given, stack: &[u8], st: St) -> Act
+    requires { Safe g.now stack.now st × (st.popped ≤ st.height) }
+    ensures sure { Sure g.now st result }
+    ensures decides { (C : Call) (scratch nodes children records : List ℕ) → Acts C g.now →
         look C (world stack.now scratch nodes children records st) Search ≡
-        on_act C (world stack.now scratch nodes children records st) result) }
+        on_act C (world stack.now scratch nodes children records st) result }
 {
     let rest = st.height - st.popped;
-    let cell = error_cell(actions, g, stack, rest);
-    let Cell::Shift(s) = cell else {
+    let Cell::Shift(s) = error_cell(g, stack, rest) else {
         return Act::LookFurther;
     };
     Act::SimulateFrom(rest, 0, s.0)
 }
 
-// What is left of a number less another.
-fn less(a: usize, b: usize) -> usize
-    ensures { (result ≡ a - b) × (result ≤ a) }
-{
-    if a <= b {
-        return 0;
-    }
-    a - b
-}
-
 // A simulated reduction pops the pushed states first, and then what they stand on.
-fn simulate_pop(
-    gotos: &[u8],
-    productions: &[u8],
-    g: Given,
-    stack: &[u8],
-    scratch: &[u8],
-    st: St,
-    p: ProdNo,
-) -> Act
-    requires { Small g × Simulable (length stack.now) (length scratch.now) g.depth st × (0 < p.0) }
-    ensures { Sure g st result × ((C : Call) (nodes children records : List ℕ) → Goes C gotos.now
-        productions.now g → simulate_reduce C (world stack.now
-        scratch.now nodes children records st) p.0 ≡ on_act C (world stack.now
-        scratch.now nodes children records st) result) }
+#[tactic(auto, using(crate::specs::Cases::simulate_more, moves::specs::Serving::size_is), unfolding(model::specs::Model::simulate_over, crate::specs::Deciding::on_act))]
+fn simulate_pop(g: &Given, stack: &[u8], scratch: &[u8], st: St, p: ProdNo) -> Act
+    requires { Small g.now × Simulable (length stack.now) (length scratch.now) g.now.depth st × (0 < p.0) }
+    ensures sure { Sure g.now st result }
+    ensures decides { (C : Call) (nodes children records : List ℕ) → Goes C g.now →
+        simulate_reduce C (world stack.now scratch.now nodes children records st) p.0 ≡
+        on_act C (world stack.now scratch.now nodes children records st) result }
 {
-    let from = st.base;
-    let above = st.pushed;
-    let n = size(productions, p.0 as usize);
-    let base = less(from, less(n, above));
-    let pushed = less(above, n);
+    let n = size(g.productions, p.0 as usize);
+    let base = st.base.saturating_sub(n.saturating_sub(st.pushed));
+    let pushed = st.pushed.saturating_sub(n);
     let top = sim_top(stack, scratch, base, pushed);
-    Act::SimulateFrom(base, pushed, goto_state(gotos, productions, g, top, p))
+    Act::SimulateFrom(base, pushed, goto_state(g, top, p))
 }
 
 // "production 0 yes"
-fn simulate_reduce(
-    gotos: &[u8],
-    productions: &[u8],
-    g: Given,
-    stack: &[u8],
-    scratch: &[u8],
-    st: St,
-    p: ProdNo,
-) -> Act
-    requires { Small g × Simulable (length stack.now) (length scratch.now) g.depth st × Within Simulate g.depth
+#[tactic(auto, unfolding(model::specs::Model::simulate_reduce, crate::specs::Deciding::on_act))]
+fn simulate_reduce(g: &Given, stack: &[u8], scratch: &[u8], st: St, p: ProdNo) -> Act
+    requires { Small g.now × Simulable (length stack.now) (length scratch.now) g.now.depth st × Within Simulate g.now.depth
         st.popped st.height }
-    ensures { Sure g st result × ((C : Call) (nodes children records : List ℕ) → Goes C gotos.now
-        productions.now g → simulate_reduce C (world stack.now
-        scratch.now nodes children records st) p.0 ≡ on_act C (world stack.now
-        scratch.now nodes children records st) result) }
+    ensures sure { Sure g.now st result }
+    ensures decides { (C : Call) (nodes children records : List ℕ) → Goes C g.now →
+        simulate_reduce C (world stack.now scratch.now nodes children records st) p.0 ≡
+        on_act C (world stack.now scratch.now nodes children records st) result }
 {
-    let number = p.0;
-    if number == 0 {
+    if p.0 == 0 {
         return Act::Recover;
     }
-    simulate_pop(gotos, productions, g, stack, scratch, st, p)
+    simulate_pop(g, stack, scratch, st, p)
 }
 
 // `accepts` of the Rust, a look at a time: "error cell no, shift yes, production 0 yes".
-pub fn simulate_look(
-    actions: &[u8],
-    gotos: &[u8],
-    productions: &[u8],
-    tokens: &[u8],
-    g: Given,
-    stack: &[u8],
-    scratch: &[u8],
-    st: St,
-) -> Act
-    requires { Small g × (st.next < 2 ^ 32) × Simulable (length stack.now) (length scratch.now) g.depth st ×
-        Within Simulate g.depth st.popped st.height }
-    ensures { Sure g st result × ((C : Call) (nodes children records : List ℕ) → Reads C tokens.now g →
-        Goes C gotos.now productions.now g → Acts C actions.now g →
+#[tactic(auto, unfolding(model::specs::Model::look, model::specs::Model::simulate_look, crate::specs::Deciding::on_act))]
+pub fn simulate_look(g: &Given, stack: &[u8], scratch: &[u8], st: St) -> Act
+    requires { Small g.now × (st.next < 2 ^ 32) × Simulable (length stack.now) (length scratch.now) g.now.depth st ×
+        Within Simulate g.now.depth st.popped st.height }
+    ensures sure { Sure g.now st result }
+    ensures decides { (C : Call) (nodes children records : List ℕ) → Serves C g.now →
         look C (world stack.now scratch.now nodes children records st) Simulate ≡
-        on_act C (world stack.now scratch.now nodes children records st) result) }
+        on_act C (world stack.now scratch.now nodes children records st) result }
 {
-    let base = st.base;
-    let pushed = st.pushed;
-    let cell = cell_under(
-        actions,
-        tokens,
-        g,
-        st,
-        sim_top(stack, scratch, base, pushed),
-    );
-    match cell {
+    let top = sim_top(stack, scratch, st.base, st.pushed);
+    match cell_under(g, st, top) {
         Cell::Shift(_) => Act::Recover,
-        Cell::Reduce(p) => simulate_reduce(gotos, productions, g, stack, scratch, st, p),
+        Cell::Reduce(p) => simulate_reduce(g, stack, scratch, st, p),
         Cell::Error => Act::LookFurther,
     }
 }
 
 // What a look decides in the mode that the run is in.
-pub fn decide(
-    actions: &[u8],
-    gotos: &[u8],
-    productions: &[u8],
-    tokens: &[u8],
-    g: Given,
-    stack: &[u8],
-    scratch: &[u8],
-    st: St,
-    mode: Mode,
-) -> Act
-    requires { Small g × Fine (length stack.now) g.depth g.count st × Simulable (length stack.now)
-        (length scratch.now) g.depth st × Within mode g.depth st.popped st.height }
-    ensures { Sure g st result × ((C : Call) (nodes children records : List ℕ) → Reads C tokens.now g →
-        Goes C gotos.now productions.now g → Acts C actions.now g →
+#[tactic(auto, unfolding(model::specs::Model::look, crate::specs::Deciding::on_act))]
+pub fn decide(g: &Given, stack: &[u8], scratch: &[u8], st: St, mode: Mode) -> Act
+    requires { Safe g.now stack.now st × Simulable (length stack.now)
+        (length scratch.now) g.now.depth st × Within mode g.now.depth st.popped st.height }
+    ensures sure { Sure g.now st result }
+    ensures decides { (C : Call) (nodes children records : List ℕ) → Serves C g.now →
         look C (world stack.now scratch.now nodes children records st) mode ≡
-        on_act C (world stack.now scratch.now nodes children records st) result) }
+        on_act C (world stack.now scratch.now nodes children records st) result }
 {
     match mode {
-        Mode::Main => main_look(actions, tokens, g, stack, st),
-        Mode::Column => column_look(actions, g, stack, st),
-        Mode::Search => search_look(actions, g, stack, st),
-        Mode::Simulate => simulate_look(actions, gotos, productions, tokens, g, stack, scratch, st),
+        Mode::Main => main_look(g, stack, st),
+        Mode::Column => column_look(g, stack, st),
+        Mode::Search => search_look(g, stack, st),
+        Mode::Simulate => simulate_look(g, stack, scratch, st),
         Mode::Ended => Act::Stay,
     }
 }

@@ -7,18 +7,20 @@ ghost use Rattle.words.specs.Words.{pick};
 ghost use Rattle.rules.specs.Tables.{target, action, error_column};
 ghost use Rattle.model.specs.Bytes.{top_at, first_at};
 ghost use Rattle.model.specs.Model.{Call, push_state, simulate_on, mark_start, mark_end, mark_entry, marked, recover, has_token, token_start};
+ghost use Rattle.rooms.specs.Lent.{Same, world_of};
 ghost use Rattle.moves.specs.Serving.{Reads, Acts, world};
-ghost use Rattle.moves.specs.Bounds.{Small, Fine};
+ghost use Rattle.moves.specs.Bounds.{Small, Fine, Safe};
 
 use model::{Mode, St};
-use moves::{Given, ended, grown, simulating};
+use moves::{Given, ended, grown, lookahead, simulating};
 use pushes::{end_below, target};
 use records::{Actions, put_record};
-use rooms::{end_at, first_at, put_entry, put_node, start_at, token_end, token_start, top_at};
+use rooms::{Rooms, put_entry, put_node, symbol_at, token_at, top_at};
 use rules::{Answer, Cell, Entry, StateNo, What};
 use tables::cell_in;
 use words::put32;
 
+#[tactic(auto, unfolding(model::specs::Model::push_state))]
 fn push_state(scratch: &mut [u8], st: St, base: usize, pushed: usize, s: u32) -> St
     requires { 4 * pushed + 4 ≤ length scratch.old }
     ensures { (stack nodes children records : List ℕ) → world stack scratch.new nodes children records result ≡
@@ -29,81 +31,73 @@ fn push_state(scratch: &mut [u8], st: St, base: usize, pushed: usize, s: u32) ->
 }
 
 // "Depth counts states, real or simulated, the first included".
-pub fn simulate_on(g: Given, scratch: &mut [u8], st: St, base: usize, pushed: usize, s: u32) -> St
-    requires { (4 * g.depth ≤ length scratch.old) × (base + pushed < 2 ^ 63) }
-    ensures { (C : Call) (tokens stack nodes children records : List ℕ) → Reads C tokens g →
+#[tactic(auto, unfolding(model::specs::Model::simulate_on))]
+pub fn simulate_on(g: &Given, scratch: &mut [u8], st: St, base: usize, pushed: usize, s: u32) -> St
+    requires { (4 * g.now.depth ≤ length scratch.old) × (base + pushed < 2 ^ 63) }
+    ensures { (C : Call) (stack nodes children records : List ℕ) → C.depth ≡ g.now.depth →
         world stack scratch.new nodes children records result ≡
         simulate_on C (world stack scratch.old nodes children records st) base pushed s }
 {
-    let depth = g.depth;
-    if depth < base + pushed + 2 {
+    if g.depth < base + pushed + 2 {
         return ended(st, Answer::OutOfDepth);
     }
     push_state(scratch, st, base, pushed, s)
 }
 
 // "else the first dropped token's; else the end of the symbol below; else the start location"
-fn start_unpopped(tokens: &[u8], g: Given, stack: &[u8], st: St, rest: usize) -> u32
+#[tactic(auto, unfolding(model::specs::Model::mark_start, model::specs::Model::has_dropped))]
+fn start_unpopped(g: &Given, stack: &[u8], st: St, rest: usize) -> u32
     requires { (st.popped ≡ 0) × (32 * rest ≤ length stack.now) }
-    ensures { (C : Call) (scratch nodes children records : List ℕ) → Reads C tokens.now g → result ≡
+    ensures { (C : Call) (scratch nodes children records : List ℕ) → Reads C g.now → result ≡
         mark_start C (world stack.now scratch nodes children records st) rest }
 {
-    let formed = st.formed;
-    let from = formed.from as usize;
-    let next = st.next;
-    let origin = g.origin;
-    if from < next {
-        return token_start(tokens, from);
+    let from = st.formed.from as usize;
+    if from < st.next {
+        return token_at(g.tokens, from).start;
     }
-    end_below(origin, stack, rest)
+    end_below(g.origin, stack, rest)
 }
 
 // "Mark start: the first popped symbol's start"
-fn mark_start(tokens: &[u8], g: Given, stack: &[u8], st: St, rest: usize) -> u32
-    requires { Fine (length stack.now) g.depth g.count st × (rest + st.popped ≡ st.height) }
-    ensures { (C : Call) (scratch nodes children records : List ℕ) → Reads C tokens.now g → result ≡
+#[tactic(auto, unfolding(model::specs::Model::mark_start))]
+fn mark_start(g: &Given, stack: &[u8], st: St, rest: usize) -> u32
+    requires { Fine (length stack.now) g.now.depth g.now.count st × (rest + st.popped ≡ st.height) }
+    ensures { (C : Call) (scratch nodes children records : List ℕ) → Reads C g.now → result ≡
         mark_start C (world stack.now scratch nodes children records st) rest }
 {
-    let popped = st.popped;
-    if popped == 0 {
-        return start_unpopped(tokens, g, stack, st, rest);
+    if st.popped == 0 {
+        return start_unpopped(g, stack, st, rest);
     }
-    start_at(stack, rest)
+    symbol_at(stack, rest).start
 }
 
 // "else the lookahead's start; else the mark's start"
-fn end_unpopped(tokens: &[u8], g: Given, st: St, start: u32) -> u32
+fn end_unpopped(g: &Given, st: St, start: u32) -> u32
     requires { st.next < 2 ^ 32 }
-    ensures { (C : Call) → Reads C tokens.now g → result ≡ pick (has_token C st)
+    ensures { (C : Call) → Reads C g.now → result ≡ pick (has_token C st)
         (token_start C st.next) start }
 {
-    let next = st.next;
-    let count = g.count;
-    if next < count {
-        return token_start(tokens, next);
+    match lookahead(g, st) {
+        Some(token) => token.start,
+        None => start,
     }
-    start
 }
 
 // "Mark end: the last dropped token's end; else, if anything popped, the last symbol's end"
-fn mark_end(tokens: &[u8], g: Given, stack: &[u8], st: St, start: u32) -> u32
-    requires { Small g × Fine (length stack.now) g.depth g.count st × (st.popped ≤ st.height) }
-    ensures { (C : Call) (scratch nodes children records : List ℕ) (rest : ℕ) → Reads C tokens.now g →
+#[tactic(auto, unfolding(model::specs::Model::mark_end, model::specs::Model::has_dropped))]
+fn mark_end(g: &Given, stack: &[u8], st: St, start: u32) -> u32
+    requires { Safe g.now stack.now st × (st.popped ≤ st.height) }
+    ensures { (C : Call) (scratch nodes children records : List ℕ) (rest : ℕ) → Reads C g.now →
         start ≡ mark_start C (world stack.now scratch nodes children records st) rest → result ≡
         mark_end C (world stack.now scratch nodes children records st) rest }
 {
-    let formed = st.formed;
-    let from = formed.from as usize;
-    let next = st.next;
-    let popped = st.popped;
-    let height = st.height;
-    if from < next {
-        return token_end(tokens, next - 1);
+    if (st.formed.from as usize) < st.next {
+        return token_at(g.tokens, st.next - 1).end;
     }
-    if popped == 0 {
-        return end_unpopped(tokens, g, st, start);
+    if st.popped == 0 {
+        return end_unpopped(g, st, start);
     }
-    end_at(stack, height - 1)
+    symbol_at(stack, st.height - 1).end
 }
 
 // "Its stretch is the tokens under popped symbols, popped marks' stretches included, then the dropped ones."
@@ -111,145 +105,103 @@ fn mark_first(stack: &[u8], st: St, rest: usize) -> u32
     requires { (32 * st.height ≤ length stack.now) × (rest + st.popped ≡ st.height) }
     ensures { result ≡ pick (eqb st.popped 0) st.formed.from (first_at stack.now rest) }
 {
-    let formed = st.formed;
-    let popped = st.popped;
-    if popped == 0 {
-        return formed.from;
+    if st.popped == 0 {
+        return st.formed.from;
     }
-    first_at(stack, rest)
+    symbol_at(stack, rest).first
 }
 
 // The error cell of the state below which so many symbols lie.
-pub fn error_cell(actions: &[u8], g: Given, stack: &[u8], height: usize) -> Cell
-    requires { Small g × (32 * height ≤ length stack.now) }
-    ensures { (C : Call) → Acts C actions.now g → result ≡ action C.tables
+#[tactic(auto, using(moves::specs::Serving::action_is))]
+pub fn error_cell(g: &Given, stack: &[u8], height: usize) -> Cell
+    requires { Small g.now × (32 * height ≤ length stack.now) }
+    ensures { (C : Call) → Acts C g.now → result ≡ action C.tables
         (top_at stack.now height) (error_column C.tables) }
 {
-    let states = g.states;
-    let kinds = g.kinds;
-    let top = top_at(stack, height) as usize;
-    cell_in(actions, states, kinds + 2, top, kinds)
+    cell_in(
+        g.actions,
+        g.states,
+        g.kinds + 2,
+        top_at(stack, height) as usize,
+        g.kinds,
+    )
 }
 
 // "The repeated look that places the mark is free."
-fn error_state(actions: &[u8], g: Given, stack: &[u8], rest: usize) -> u32
-    requires { Small g × (32 * rest ≤ length stack.now) }
-    ensures { (C : Call) → Acts C actions.now g → result ≡ target (action C.tables
+fn error_state(g: &Given, stack: &[u8], rest: usize) -> u32
+    requires { Small g.now × (32 * rest ≤ length stack.now) }
+    ensures { (C : Call) → Acts C g.now → result ≡ target (action C.tables
         (top_at stack.now rest) (error_column C.tables)) }
 {
-    target(error_cell(actions, g, stack, rest))
+    target(error_cell(g, stack, rest))
 }
 
-fn mark_entry(actions: &[u8], tokens: &[u8], g: Given, stack: &[u8], st: St, rest: usize) -> Entry
-    requires { Small g × Fine (length stack.now) g.depth g.count st × (rest + st.popped ≡ st.height) }
-    ensures { (C : Call) (scratch nodes children records : List ℕ) → Reads C tokens.now g →
-        Acts C actions.now g → result ≡
+#[tactic(auto, unfolding(model::specs::Model::mark_entry))]
+fn mark_entry(g: &Given, stack: &[u8], st: St, rest: usize) -> Entry
+    requires { Safe g.now stack.now st × (rest + st.popped ≡ st.height) }
+    ensures { (C : Call) (scratch nodes children records : List ℕ) → Reads C g.now → Acts C g.now → result ≡
         mark_entry C (world stack.now scratch nodes children records st) rest }
 {
-    let next = st.next;
-    let node = st.nodes;
-    let mark = st.records;
-    let what = What::Mark(mark as u32);
-    let start = mark_start(tokens, g, stack, st, rest);
-    let to = StateNo(error_state(actions, g, stack, rest));
+    let start = mark_start(g, stack, st, rest);
     Entry {
-        what,
+        what: What::Mark(st.records as u32),
         start,
-        end: mark_end(tokens, g, stack, st, start),
+        end: mark_end(g, stack, st, start),
         first: mark_first(stack, st, rest),
-        after: next as u32,
-        state: to,
-        node: node as u32,
+        after: st.next as u32,
+        state: StateNo(error_state(g, stack, rest)),
+        node: st.nodes as u32,
     }
 }
 
-fn marked(
-    actions: &[u8],
-    g: Given,
-    stack: &mut [u8],
-    nodes: &mut [u8],
-    records: &mut [u8],
-    st: St,
-    rest: usize,
-    e: Entry,
-) -> St
-    requires { Small g × Fine (length stack.old) g.depth g.count st × (32 * rest + 32 ≤ length stack.old) ×
-        (32 * st.nodes + 32 ≤ length nodes.old) × (64 * st.records + 64 ≤ length records.old) }
-    ensures { (C : Call) (scratch children : List ℕ) → Acts C actions.now g →
-        world stack.new scratch nodes.new children records.new result ≡
-        marked C (world stack.old scratch nodes.old children records.old st) rest e }
+#[tactic(auto, unfolding(model::specs::Model::marked, model::specs::Model::push))]
+fn marked(g: &Given, rooms: &mut Rooms, st: St, rest: usize, e: Entry) -> St
+    requires { Safe g.now rooms.old.stack.now st × (32 * rest + 32 ≤ length rooms.old.stack.now) ×
+        (32 * st.nodes + 32 ≤ length rooms.old.nodes.now) × (64 * st.records + 64 ≤ length rooms.old.records.now) }
+    ensures same { Same rooms.old rooms.new }
+    ensures untouched { (rooms.new.scratch.now ≡ rooms.old.scratch.now) × (rooms.new.children.now ≡ rooms.old.children.now) }
+    ensures marks { (C : Call) → Acts C g.now → world_of rooms.new result ≡ marked C (world_of rooms.old st) rest e }
 {
-    let states = g.states;
-    let kinds = g.kinds;
-    let node = st.nodes;
-    let mark = st.records;
-    let next = st.next;
-    let formed = st.formed;
-    put_record(
-        Actions {
-            bytes: actions,
-            states,
-            kinds,
-        },
-        records,
-        mark,
-        formed,
-        e,
-    );
-    put_entry(stack, rest, e);
-    put_node(nodes, node, e, 0, 0);
-    grown(st, rest + 1, 0, 1, next, Mode::Main)
+    let actions = Actions {
+        bytes: g.actions,
+        states: g.states,
+        kinds: g.kinds,
+    };
+    put_record(actions, rooms.records, st.records, st.formed, e);
+    put_entry(rooms.stack, rest, e);
+    put_node(rooms.nodes, st.nodes, e, 0, 0);
+    grown(st, rest + 1, 0, 1, st.next, Mode::Main)
 }
 
 // The entry is made before it is written: it is read off the popped symbols.
-fn mark(
-    actions: &[u8],
-    tokens: &[u8],
-    g: Given,
-    stack: &mut [u8],
-    nodes: &mut [u8],
-    records: &mut [u8],
-    st: St,
-    rest: usize,
-) -> St
-    requires { Small g × Fine (length stack.old) g.depth g.count st × (rest + st.popped ≡ st.height) ×
-        (32 * rest + 32 ≤ length stack.old) × (32 * st.nodes + 32 ≤ length nodes.old) ×
-        (64 * st.records + 64 ≤ length records.old) }
-    ensures { (C : Call) (scratch children : List ℕ) → Reads C tokens.now g →
-        Acts C actions.now g →
-        world stack.new scratch nodes.new children records.new result ≡
-        marked C (world stack.old scratch nodes.old children records.old st) rest (mark_entry C
-        (world stack.old scratch nodes.old children records.old st) rest) }
+fn mark(g: &Given, rooms: &mut Rooms, st: St, rest: usize) -> St
+    requires { Safe g.now rooms.old.stack.now st × (rest + st.popped ≡ st.height) ×
+        (32 * rest + 32 ≤ length rooms.old.stack.now) × (32 * st.nodes + 32 ≤ length rooms.old.nodes.now) ×
+        (64 * st.records + 64 ≤ length rooms.old.records.now) }
+    ensures same { Same rooms.old rooms.new }
+    ensures untouched { (rooms.new.scratch.now ≡ rooms.old.scratch.now) × (rooms.new.children.now ≡ rooms.old.children.now) }
+    ensures marks { (C : Call) → Reads C g.now → Acts C g.now → world_of rooms.new result ≡
+        marked C (world_of rooms.old st) rest (mark_entry C (world_of rooms.old st) rest) }
 {
-    let e = mark_entry(actions, tokens, g, stack, st, rest);
-    marked(actions, g, stack, nodes, records, st, rest, e)
+    let stack = &mut *rooms.stack;
+    let e = mark_entry(g, stack, st, rest);
+    marked(g, rooms, st, rest, e)
 }
 
 // "Mark: 22, 23." The depth was tested where the error state went on the simulated stack, so that a mark never gives 20.
-pub fn recover(
-    actions: &[u8],
-    tokens: &[u8],
-    g: Given,
-    stack: &mut [u8],
-    nodes: &mut [u8],
-    records: &mut [u8],
-    st: St,
-) -> St
-    requires { Small g × Fine (length stack.old) g.depth g.count st × (st.popped ≤ st.height) ×
-        (st.height + 2 ≤ g.depth + st.popped) }
-    ensures { (C : Call) (scratch children : List ℕ) → Reads C tokens.now g →
-        Acts C actions.now g →
-        world stack.new scratch nodes.new children records.new result ≡
-        recover C (world stack.old scratch nodes.old children records.old st) }
+#[tactic(auto, unfolding(model::specs::Model::recover, model::specs::Model::place_mark))]
+pub fn recover(g: &Given, rooms: &mut Rooms, st: St) -> St
+    requires { Safe g.now rooms.old.stack.now st × (st.popped ≤ st.height) × (st.height + 2 ≤ g.now.depth + st.popped) }
+    ensures same { Same rooms.old rooms.new }
+    ensures untouched { (rooms.new.scratch.now ≡ rooms.old.scratch.now) × (rooms.new.children.now ≡ rooms.old.children.now) }
+    ensures recovers { (C : Call) → Reads C g.now → Acts C g.now → world_of rooms.new result ≡ recover C (world_of rooms.old st) }
 {
-    let node = st.nodes;
-    let count = st.records;
     let rest = st.height - st.popped;
-    if nodes.len() / 32 < node + 1 {
+    if rooms.nodes.len() / 32 < st.nodes + 1 {
         return ended(st, Answer::OutOfNodes);
     }
-    if records.len() / 64 < count + 1 {
+    if rooms.records.len() / 64 < st.records + 1 {
         return ended(st, Answer::OutOfRecords);
     }
-    mark(actions, tokens, g, stack, nodes, records, st, rest)
+    mark(g, rooms, st, rest)
 }

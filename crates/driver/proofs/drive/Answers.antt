@@ -10,18 +10,10 @@ pub run-requires : goal.run-requires
 run-requires c = let p = c.requires in
     let x = c.args in
     let b = c.ranges.budget in
-    let o : Onward (length x.stack.now) (length x.scratch.now)
-    x.g 0 c.begin-st.result = begin_onward x.g x.actions.now
-    x.gotos.now x.productions.now x.tokens.now (length x.stack.now) (length x.scratch.now)
-    c.begin-st.result p.1 p.2
-    c.begin-st.ensures in (
-      p.0,
-      o.fine,
+    let o : Onward (length x.rooms.now.stack.now) (length x.rooms.now.scratch.now) x.g.now 0 c.begin.result =
+    begin_onward x.g.now (length x.rooms.now.stack.now) (length x.rooms.now.scratch.now) c.begin.result p.1 p.2 c.begin.ensures in (
+      (p.0, o.fine),
       o.simulable,
-      let u : c.begin-st.result.units ≡ 0 = o.units_are in
+      let u : c.begin.result.units ≡ 0 = o.units_are in
           omega arith,
     )
-
-pub returns : goal.returns
-returns c = λ C m n a. rw (← c.begin-st.ensures C m)
-    (c.run.ensures C m n a)

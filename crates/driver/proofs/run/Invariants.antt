@@ -1,11 +1,8 @@
 -- `driver::run` repeats the step while the run has not ended and units are left. The invariant is `Going`: what is left to run gives the whole.
 -- Assumes nothing.
+use Prim.Native.Nat.{◌-◌}
 use Rattle.driver.specs.Running.{Going}
 use Rattle.driver.proofs.run.Given as goal
 
-abbrev pub invariant-loop-left : goal.invariant-loop-left
-invariant-loop-left l = Going l.fn.g l.fn.actions l.fn.gotos l.fn.productions l.fn.tokens l.fn.stack l.fn.scratch
-    l.fn.nodes l.fn.children l.fn.records l.fn.st l.fn.budget l.stack l.scratch l.nodes l.children l.records l.s l.left
-
-abbrev pub decreases-loop-left : goal.decreases-loop-left
-decreases-loop-left l = l.left
+abbrev pub invariant-loop : goal.invariant-loop
+invariant-loop l = Going l.fn.g l.fn.rooms l.fn.st l.fn.budget l.rooms l.s (l.fn.budget - l.counter)

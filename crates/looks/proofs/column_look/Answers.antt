@@ -1,35 +1,14 @@
--- `looks::column_look` is a look at the error column: a reduction, or else the search begins at the top.
+-- `looks::column_look` reduces by the error column: what `column_reduce` ensures of any call.
 -- Assumes nothing.
-use Rattle.model.specs.Model.{column_look, look}
-use Rattle.looks.specs.Deciding.{on_act}
+use Rattle.model.specs.Model.{look, column_look}
 use Rattle.looks.proofs.column_look.Goals as goal
-
-pub returns-in-Shift : goal.returns-in-Shift
-unfolding look column_look on_act
-returns-in-Shift c = (
-  tt,
-  λ C scratch nodes children records a. rw (
-    ← c.error_cell-cell.ensures C a,
-    c.in-Shift.is,
-  ),
-)
 
 pub returns-in-Reduce : goal.returns-in-Reduce
 unfolding look column_look
-returns-in-Reduce c = (
-  c.column_reduce.ensures.0 c.args.g,
-  λ C scratch nodes children records a. rw (
-    ← c.error_cell-cell.ensures C a,
+returns-in-Reduce c = record {
+  sure = c.column_reduce.ensures.sure c.args.g.now;
+  decides = λ C scratch nodes children records a. rw (
+    ← c.error_cell.ensures C a,
     c.in-Reduce.is,
-  ) (c.column_reduce.ensures.1 C scratch nodes children records),
-)
-
-pub returns-in-Error : goal.returns-in-Error
-unfolding look column_look on_act
-returns-in-Error c = (
-  tt,
-  λ C scratch nodes children records a. rw (
-    ← c.error_cell-cell.ensures C a,
-    c.in-Error.is,
-  ),
-)
+  ) (c.column_reduce.ensures.decides C scratch nodes children records);
+}

@@ -1,7 +1,0 @@
--- `driver::fail_now` fails with the error of this moment.
--- Assumes nothing.
-use Rattle.driver.proofs.fail_now.Goals as goal
-
-pub returns : goal.returns
-returns c = λ C tokens scratch nodes children records m. rw (← c.formed_at.ensures C tokens scratch nodes children
-    records m) (c.fail.ensures C tokens c.args.stack.now scratch nodes children records m)
