@@ -1,13 +1,13 @@
--- `printer::leaf_byte` is `leaf_byte`, by its one test.
+-- `leaf_byte` is `leaf_byte`, by its one test.
 -- Assumes nothing.
 use Rattle.words.proofs.Rules.{tests}
 use Rattle.printer.specs.TreeText.{leaf_byte}
 use Rattle.printer.proofs.leaf_byte.Goals as goal
 
-pub returns-then-kind-eq0 : goal.returns-then-kind-eq0
+pub returns-in-0 : goal.returns-in-0
 unfolding leaf_byte
-returns-then-kind-eq0 c = search tests
+returns-in-0 c = search tests
 
-pub returns : goal.returns
+pub returns-in_default : goal.returns-in_default
 unfolding leaf_byte
-returns c = search tests
+returns-in_default c = search tests

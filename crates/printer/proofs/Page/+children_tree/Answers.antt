@@ -1,0 +1,30 @@
+-- `Page::tree` writes `tree_text` and `Page::children` writes `children_text`, each by the other.
+-- Assumes nothing.
+use Rattle.std.proofs.Common.{arith}
+use Rattle.rules.specs.Basics.{text, codes_from}
+use Rattle.printer.specs.Page.{behind, left_turn, left_none}
+use Rattle.printer.specs.TreeText.{children_turn, children_none, tree_none, tree_leaf, tree_branch}
+use Rattle.printer.proofs.Page.+children_tree.Goals as goal
+
+pub children-loop-j-preserved : goal.children-loop-j-preserved
+children-loop-j-preserved t c =
+    left_turn _ _ _ _ _ _ _ (children_turn _ _ _ _ _ _ c.loop-j.j (omega arith))
+    (behind c.comma.ensures (rw c.word32.ensures at c.tree.ensures)) c.loop-j.invariant
+
+pub children-returns : goal.children-returns
+children-returns t c = left_none _ _ _ _ (children_none _ _ _ _ _ _ c.loop-j.j (omega arith)) c.loop-j.invariant
+
+pub tree-returns-then-fuel-eq0 : goal.tree-returns-then-fuel-eq0
+tree-returns-then-fuel-eq0 t c = rw (tree_none _ _ _ _ _ c.if-fuel-eq0.true) c.leaf.ensures
+
+pub tree-returns-then-kind-lt2 : goal.tree-returns-then-kind-lt2
+tree-returns-then-kind-lt2 t c =
+    rw (tree_leaf _ _ _ _ _ c.if-fuel-eq0.false (rw c.word32-kind.ensures at c.if-kind-lt2.true), ← c.word32-kind.ensures, ← c.word32-number.ensures)
+    c.leaf-then-kind-lt2.ensures
+
+pub tree-returns : goal.tree-returns
+unfolding text codes_from
+tree-returns t c =
+    rw
+    (tree_branch _ _ _ _ _ c.if-fuel-eq0.false (rw c.word32-kind.ensures at c.if-kind-lt2.false), ← c.word32-number.ensures, ← c.word32-child.ensures, ← c.word32-count.ensures)
+    (behind (behind c.head.ensures c.children.ensures) c.byte.ensures)
