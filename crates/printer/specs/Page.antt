@@ -3,7 +3,10 @@
 use Rattle.std.specs.Prelude.{List, [], ◌∷◌, ◌++◌, ◌≡◌, refl, ℕ, ◌+◌, ◌≤◌, ◌<◌, length, get_or, drop}
 use Rattle.std.proofs.Common.{◌∙◌}
 use Rattle.printer.specs.Writing.{Wrote, none, then, Rest, rest_by, rest_all, rest_none, text_turn, text_end}
+use Rattle.printer.specs.TreeText.{tree_text, children_text, tree_line_text, tree_lines_text, answer_lines_text}
 use Rattle.printer.specs.declared.Page.{Page}
+use Rattle.printer.specs.declared.Trees.{Trees}
+use Rattle.printer.specs.declared.Answer.{Answer}
 
 -- what a method that writes `t` leaves of a page, in the buffer that was lent
 pub record Written (p : Page) (t : List ℕ) (q : Page) : Type 0 where
@@ -48,3 +51,22 @@ text_next p t q i r h w l =
 pub text_done : (p : Page) (t : List ℕ) (q : Page) (i : ℕ) → length t ≤ i → Left p t q (drop i t) → Written p t q
 text_done p t q i h l =
     record { wrote = text_end p.buf.now p.at t q.buf.now q.at i h l.rests; same_buffer = l.same_buffer }
+
+-- ---- the texts of trees and of an answer
+
+abbrev pub tree_of : ℕ → Trees → ℕ → List ℕ
+tree_of fuel t i = tree_text fuel t.productions.now t.nodes.now t.children.now i
+
+abbrev pub children_of : ℕ → Trees → ℕ → ℕ → List ℕ
+children_of count t from fuel = children_text count 0 t.productions.now t.nodes.now t.children.now from fuel
+
+abbrev pub tree_line_of : Trees → ℕ → List ℕ
+tree_line_of t root = tree_line_text t.productions.now t.nodes.now t.children.now root
+
+abbrev pub tree_lines_of : ℕ → Trees → ℕ → List ℕ
+tree_lines_of number t root = tree_lines_text number t.productions.now t.nodes.now t.children.now root
+
+abbrev pub answer_lines_of : Answer → List ℕ
+answer_lines_of a =
+    answer_lines_text a.number a.place a.root a.units a.expected.now a.trees.productions.now a.trees.nodes.now
+    a.trees.children.now a.records.now a.count

@@ -3,9 +3,9 @@
 
 ghost use Rattle.std.specs.Prelude.{[], ◌∷◌, ◌++◌, ◌≡◌, ◌+◌, ◌*◌, ◌<◌, ◌^◌};
 ghost use Rattle.rules.specs.File.{decimal, spaced, spaced_all, kinds_in, refused_line};
-ghost use Rattle.printer.specs.Page.{Written};
+ghost use Rattle.printer.specs.Page.{Written, tree_of, children_of, tree_line_of, tree_lines_of, answer_lines_of};
 ghost use Rattle.printer.specs.Lines.{units_text, kind_text, kinds_text, places_by, answer_text, mark_tokens, mark_error, mark_expected, mark_text, marks_text};
-ghost use Rattle.printer.specs.TreeText.{leaf_text, leaf_byte, head_text, comma_text, tree_text, children_text, tree_line_text, tree_lines_text, answer_lines_text};
+ghost use Rattle.printer.specs.TreeText.{leaf_text, leaf_byte, head_text, comma_text};
 
 use itoa::Buffer;
 use words::{word16, word32};
@@ -67,7 +67,7 @@ impl<'a> Page<'a> {
     }
 
     // "in decimal"
-    pub fn number(&mut self, n: usize)
+    fn number(&mut self, n: usize)
         ensures { Written self.old (decimal n) self.new }
     {
         self.text(Buffer::new().format(n).as_bytes());
@@ -246,7 +246,7 @@ impl<'a> Page<'a> {
     // entry, child count, ..".
     #[cycle(children_tree)]
     pub fn tree(&mut self, trees: &Trees<'_>, i: u32, fuel: usize)
-        ensures { Written self.old (tree_text fuel trees.now.productions.now trees.now.nodes.now trees.now.children.now i) self.new }
+        ensures { Written self.old (tree_of fuel trees.now i) self.new }
     {
         if fuel == 0 {
             self.leaf(0, i);
@@ -255,23 +255,22 @@ impl<'a> Page<'a> {
         let node = 32 * i as usize;
         let kind = word32(trees.nodes, node);
         let number = word32(trees.nodes, node + 4);
-        if kind < 2 {
-            self.leaf(kind, number);
-            return;
+        match kind {
+            0 | 1 => self.leaf(kind, number),
+            _ => {
+                let child = word32(trees.nodes, node + 8);
+                let count = word32(trees.nodes, node + 12);
+                self.head(trees.productions, number);
+                self.children(trees, child, count, fuel - 1);
+                self.byte(b']');
+            }
         }
-        let child = word32(trees.nodes, node + 8);
-        let count = word32(trees.nodes, node + 12);
-        self.head(trees.productions, number);
-        self.children(trees, child, count, fuel - 1);
-        self.byte(b']');
     }
 
     // The trees of `count` child entries from `child` on, `, ` between them.
     #[cycle(children_tree)]
     fn children(&mut self, trees: &Trees<'_>, child: u32, count: u32, fuel: usize)
-        ensures { Written self.old
-            (children_text count 0 trees.now.productions.now trees.now.nodes.now trees.now.children.now (4 * child) fuel)
-            self.new }
+        ensures { Written self.old (children_of count trees.now (4 * child) fuel) self.new }
     {
         let from = 4 * child as usize;
         for j in 0..count as usize {
@@ -282,7 +281,7 @@ impl<'a> Page<'a> {
 
     // the tree's line
     pub fn tree_line(&mut self, trees: &Trees<'_>, root: u32)
-        ensures { Written self.old (tree_line_text trees.now.productions.now trees.now.nodes.now trees.now.children.now root) self.new }
+        ensures { Written self.old (tree_line_of trees.now root) self.new }
     {
         self.text(b"tree ");
         self.tree(trees, root, root as usize + 1);
@@ -292,9 +291,7 @@ impl<'a> Page<'a> {
     // "1 and 2 print the tree"
     #[tactic(auto, using(crate::specs::TreeText::tree_low, crate::specs::TreeText::tree_high, crate::specs::TreeText::tree_shown, crate::proofs::Nothing::written_none, crate::proofs::Nothing::behind_none))]
     fn tree_lines(&mut self, number: usize, trees: &Trees<'_>, root: u32)
-        ensures { Written self.old
-            (tree_lines_text number trees.now.productions.now trees.now.nodes.now trees.now.children.now root)
-            self.new }
+        ensures { Written self.old (tree_lines_of number trees.now root) self.new }
     {
         match number {
             1..=2 => self.tree_line(trees, root),
@@ -304,9 +301,7 @@ impl<'a> Page<'a> {
 
     // all lines of an answer
     pub fn answer_lines(&mut self, answer: &Answer<'_>)
-        ensures { Written self.old (answer_lines_text answer.now.number answer.now.place answer.now.root answer.now.units
-            answer.now.expected.now answer.now.trees.productions.now answer.now.trees.nodes.now answer.now.trees.children.now
-            answer.now.records.now answer.now.count) self.new }
+        ensures { Written self.old (answer_lines_of answer.now) self.new }
     {
         self.answer_line(answer.number, answer.place, answer.expected);
         self.units_line(answer.units);
@@ -316,6 +311,7 @@ impl<'a> Page<'a> {
 }
 
 // `t` before a token, `!` before a mark
+#[tactic(auto, unfolding(crate::specs::TreeText::leaf_byte))]
 fn leaf_byte(kind: u32) -> u8
     ensures { result ≡ leaf_byte kind }
 {

@@ -1,6 +1,6 @@
 -- `Page::tree` writes `tree_text` and `Page::children` writes `children_text`, each by the other.
 -- Assumes nothing.
-use Rattle.std.proofs.Common.{arith}
+use Rattle.std.proofs.Common.{◌≤◌, arith}
 use Rattle.rules.specs.Basics.{text, codes_from}
 use Rattle.printer.specs.Page.{behind, left_turn, left_none}
 use Rattle.printer.specs.TreeText.{children_turn, children_none, tree_none, tree_leaf, tree_branch}
@@ -17,14 +17,15 @@ children-returns t c = left_none _ _ _ _ (children_none _ _ _ _ _ _ c.loop-j.j (
 pub tree-returns-then-fuel-eq0 : goal.tree-returns-then-fuel-eq0
 tree-returns-then-fuel-eq0 t c = rw (tree_none _ _ _ _ _ c.if-fuel-eq0.true) c.leaf.ensures
 
-pub tree-returns-then-kind-lt2 : goal.tree-returns-then-kind-lt2
-tree-returns-then-kind-lt2 t c =
-    rw (tree_leaf _ _ _ _ _ c.if-fuel-eq0.false (rw c.word32-kind.ensures at c.if-kind-lt2.true), ← c.word32-kind.ensures, ← c.word32-number.ensures)
-    c.leaf-then-kind-lt2.ensures
+pub tree-returns-in-0 : goal.tree-returns-in-0
+tree-returns-in-0 t c =
+    rw (tree_leaf _ _ _ _ _ c.if-fuel-eq0.false (rw c.word32-kind.ensures at c.in-0.is), ← c.word32-kind.ensures, ← c.word32-number.ensures)
+    c.leaf-in-0.ensures
 
-pub tree-returns : goal.tree-returns
+pub tree-returns-in_default : goal.tree-returns-in_default
 unfolding text codes_from
-tree-returns t c =
+tree-returns-in_default t c =
+    let k : 2 ≤ c.word32-kind.result = omega arith in
     rw
-    (tree_branch _ _ _ _ _ c.if-fuel-eq0.false (rw c.word32-kind.ensures at c.if-kind-lt2.false), ← c.word32-number.ensures, ← c.word32-child.ensures, ← c.word32-count.ensures)
+    (tree_branch _ _ _ _ _ c.if-fuel-eq0.false (rw c.word32-kind.ensures at k), ← c.word32-number.ensures, ← c.word32-child.ensures, ← c.word32-count.ensures)
     (behind (behind c.head.ensures c.children.ensures) c.byte.ensures)

@@ -5,9 +5,6 @@ use Rattle.printer.specs.Page.{left_all, left_turn, left_none}
 use Rattle.printer.specs.Lines.{marks_all, marks_turn, marks_none}
 use Rattle.printer.proofs.Page.mark_lines.Goals as goal
 
-pub loop-i-init : goal.loop-i-init
-loop-i-init c = left_all _ _ _ (marks_all _ _)
-
 pub loop-i-preserved : goal.loop-i-preserved
 loop-i-preserved c = left_turn _ _ _ _ _ _ _ (marks_turn _ _ c.loop-i.i (omega arith)) c.mark_line.ensures c.loop-i.invariant
 

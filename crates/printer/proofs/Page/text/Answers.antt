@@ -4,9 +4,6 @@ use Rattle.std.proofs.Common.{refl, arith}
 use Rattle.printer.specs.Page.{left_all, text_next, text_done}
 use Rattle.printer.proofs.Page.text.Goals as goal
 
-pub loop-x-init : goal.loop-x-init
-loop-x-init c = left_all _ _ _ refl
-
 pub loop-x-preserved : goal.loop-x-preserved
 loop-x-preserved c = text_next _ _ _ c.loop-x.x-index _ (omega arith) c.byte.ensures c.loop-x.invariant
 

@@ -5,9 +5,6 @@ use Rattle.printer.specs.Page.{left_all, left_turn, left_none}
 use Rattle.printer.specs.Lines.{word_all, word_turn, word_none}
 use Rattle.printer.proofs.Page.word.Goals as goal
 
-pub loop-i-init : goal.loop-i-init
-loop-i-init c = left_all _ _ _ (word_all _ _)
-
 pub loop-i-preserved : goal.loop-i-preserved
 loop-i-preserved c = left_turn _ _ _ _ _ _ _ (word_turn _ _ c.loop-i.i (omega arith)) c.kind.ensures c.loop-i.invariant
 
