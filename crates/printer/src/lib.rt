@@ -5,7 +5,7 @@ ghost use Rattle.std.specs.Prelude.{[], ◌∷◌, ◌++◌, ◌≡◌, ◌+◌,
 ghost use Rattle.rules.specs.File.{decimal, spaced, spaced_all, kinds_in, refused_line};
 ghost use Rattle.printer.specs.Page.{Written, tree_of, children_of, tree_line_of, tree_lines_of, answer_lines_of};
 ghost use Rattle.printer.specs.Lines.{units_text, kind_text, kinds_text, places_by, answer_text, mark_tokens, mark_error, mark_expected, mark_text, marks_text};
-ghost use Rattle.printer.specs.TreeText.{leaf_text, leaf_byte, head_text, comma_text};
+ghost use Rattle.printer.specs.TreeText.{head_text, comma_text};
 
 use itoa::Buffer;
 use words::{word16, word32};
@@ -138,7 +138,7 @@ impl<'a> Page<'a> {
     }
 
     // the field that answers 2 to 6 print: their token or location
-    #[tactic(auto, using(crate::specs::Lines::place_low, crate::specs::Lines::place_high, crate::specs::Lines::place_one, crate::proofs::Nothing::written_none, crate::proofs::Nothing::behind_none))]
+    #[tactic(auto, using(crate::proofs::Nothing::places))]
     fn place(&mut self, number: usize, place: usize)
         ensures { Written self.old (spaced_all (places_by number place)) self.new }
     {
@@ -215,11 +215,11 @@ impl<'a> Page<'a> {
         }
     }
 
-    // `tI` a token, `!R` a mark: a leaf, by its node's kind
-    fn leaf(&mut self, kind: u32, number: u32)
-        ensures { Written self.old (leaf_text kind number) self.new }
+    // `tI` a token, `!R` a mark: a leaf's letter and its number
+    fn leaf(&mut self, letter: u8, number: u32)
+        ensures { Written self.old (letter ∷ decimal number) self.new }
     {
-        self.byte(leaf_byte(kind));
+        self.byte(letter);
         self.number(number as usize);
     }
 
@@ -249,14 +249,14 @@ impl<'a> Page<'a> {
         ensures { Written self.old (tree_of fuel trees.now i) self.new }
     {
         if fuel == 0 {
-            self.leaf(0, i);
+            self.leaf(b't', i);
             return;
         }
         let node = 32 * i as usize;
-        let kind = word32(trees.nodes, node);
         let number = word32(trees.nodes, node + 4);
-        match kind {
-            0 | 1 => self.leaf(kind, number),
+        match word32(trees.nodes, node) {
+            0 => self.leaf(b't', number),
+            1 => self.leaf(b'!', number),
             _ => {
                 let child = word32(trees.nodes, node + 8);
                 let count = word32(trees.nodes, node + 12);
@@ -289,7 +289,7 @@ impl<'a> Page<'a> {
     }
 
     // "1 and 2 print the tree"
-    #[tactic(auto, using(crate::specs::TreeText::tree_low, crate::specs::TreeText::tree_high, crate::specs::TreeText::tree_shown, crate::proofs::Nothing::written_none, crate::proofs::Nothing::behind_none))]
+    #[tactic(auto, using(crate::proofs::Nothing::trees))]
     fn tree_lines(&mut self, number: usize, trees: &Trees<'_>, root: u32)
         ensures { Written self.old (tree_lines_of number trees.now root) self.new }
     {
@@ -307,16 +307,5 @@ impl<'a> Page<'a> {
         self.units_line(answer.units);
         self.tree_lines(answer.number, &answer.trees, answer.root);
         self.mark_lines(answer.records, answer.count);
-    }
-}
-
-// `t` before a token, `!` before a mark
-#[tactic(auto, unfolding(crate::specs::TreeText::leaf_byte))]
-fn leaf_byte(kind: u32) -> u8
-    ensures { result ≡ leaf_byte kind }
-{
-    match kind {
-        0 => b't',
-        _ => b'!',
     }
 }

@@ -1,8 +1,8 @@
 -- `Page::mark_lines` writes the records' lines, one by one.
 -- Assumes nothing.
 use Rattle.std.proofs.Common.{arith}
-use Rattle.printer.specs.Page.{left_all, left_turn, left_none}
-use Rattle.printer.specs.Lines.{marks_all, marks_turn, marks_none}
+use Rattle.printer.specs.Page.{left_turn, left_none}
+use Rattle.printer.specs.Lines.{marks_turn, marks_none}
 use Rattle.printer.proofs.Page.mark_lines.Goals as goal
 
 pub loop-i-preserved : goal.loop-i-preserved

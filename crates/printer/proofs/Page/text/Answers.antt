@@ -1,7 +1,7 @@
 -- `Page::text` writes the text, byte by byte.
 -- Assumes nothing.
-use Rattle.std.proofs.Common.{refl, arith}
-use Rattle.printer.specs.Page.{left_all, text_next, text_done}
+use Rattle.std.proofs.Common.{arith}
+use Rattle.printer.specs.Page.{text_next, text_done}
 use Rattle.printer.proofs.Page.text.Goals as goal
 
 pub loop-x-preserved : goal.loop-x-preserved

@@ -1,8 +1,8 @@
 -- `Page::word` writes the kinds of a word, bit by bit.
 -- Assumes nothing.
 use Rattle.std.proofs.Common.{arith}
-use Rattle.printer.specs.Page.{left_all, left_turn, left_none}
-use Rattle.printer.specs.Lines.{word_all, word_turn, word_none}
+use Rattle.printer.specs.Page.{left_turn, left_none}
+use Rattle.printer.specs.Lines.{word_turn, word_none}
 use Rattle.printer.proofs.Page.word.Goals as goal
 
 pub loop-i-preserved : goal.loop-i-preserved
