@@ -27,7 +27,8 @@ pub struct Trees<'a> {
 }
 
 // An answer: its number, its token or location, its root and its units, the slice of its expected words (none: an empty slice), its
-// trees, and the record words that the call leaves, with the count of the records.
+// trees, and the record words that the call leaves, with the count of the records. The number stays a number and no enum: it is printed
+// as it is, and `answer_lines` promises its lines for every number.
 #[derive(Clone, Copy, Drop)]
 pub struct Answer<'a> {
     pub number: usize,
@@ -107,6 +108,7 @@ impl<'a> Page<'a> {
     }
 
     // "expected lists kinds upward": kind `k`, if the lowest bit of `w` is set
+    #[tactic(auto, using(crate::proofs::Nothing::kinds))]
     fn kind(&mut self, w: u32, k: usize)
         ensures { Written self.old (kind_text w k) self.new }
     {
@@ -206,7 +208,7 @@ impl<'a> Page<'a> {
         self.mark_expected(records, from);
     }
 
-    // "all records follow"
+    // "all records follow": `count` of them, whatever the length of the slice, so no chunks of it (a word past its end is 0)
     pub fn mark_lines(&mut self, records: &[u8], count: u32)
         ensures { Written self.old (marks_text count 0 records.now 0) self.new }
     {
