@@ -3,12 +3,13 @@
 #![tactic(auto)]
 
 ghost use Rattle.std.specs.Prelude.{◌≡◌, ◌+◌, ◌≤◌, min, length, take, drop};
-ghost use Rattle.rules.specs.File.{file_of};
+ghost use Rattle.rules.specs.File.{file_of, refused_line};
+ghost use Rattle.printer.specs.Writing.{Wrote};
 ghost use Rattle.reader.specs.declared.ReadFile.{ReadFile};
 ghost use Rattle.reader.specs.Reading.{filed_of};
 
 use chamrolak::chamrolak_parse;
-use printer::{answer_lines, refused_line};
+use printer::{Answer, Page, Trees};
 use reader::{Payload, Payloads, ReadFile};
 use words::{get32, put32};
 
@@ -21,6 +22,15 @@ fn within(bytes: usize, room: usize) -> usize
         return bytes;
     }
     room
+}
+
+// The line of a refusal, from the front of `out` on, and the place behind it.
+fn refuse(out: &mut [u8], number: usize, place: usize) -> usize
+    ensures { Wrote out.old 0 (refused_line number place) out.new result }
+{
+    let mut page = Page::new(out);
+    page.refused_line(number, place);
+    page.at
 }
 
 // The lines of a reply, by what a call returned and left. A refusal touches no room, so a report whose first word was 0 still has it;
@@ -39,24 +49,26 @@ fn tell(
 {
     let answer = get32(report, 0);
     if answer == 0 {
-        return refused_line(out, 0, number as usize, value as usize);
+        return refuse(out, number as usize, value as usize);
     }
     let n = within(get32(report, 20) as usize * 32, nodes.len());
     let k = within(get32(report, 24) as usize * 4, children.len());
-    answer_lines(
-        out,
-        0,
-        answer as usize,
-        get32(report, 8) as usize,
-        get32(report, 4),
-        get32(report, 16) as usize,
-        &report[32..64],
-        productions,
-        &nodes[..n],
-        &children[..k],
+    let mut page = Page::new(out);
+    page.answer_lines(&Answer {
+        number: answer as usize,
+        place: get32(report, 8) as usize,
+        root: get32(report, 4),
+        units: get32(report, 16) as usize,
+        expected: &report[32..64],
+        trees: Trees {
+            productions,
+            nodes: &nodes[..n],
+            children: &children[..k],
+        },
         records,
-        get32(report, 28),
-    )
+        count: get32(report, 28),
+    });
+    page.at
 }
 
 // The call on the payloads and the widened tokens, and its lines. "Limits: 1,000,000 units, depth 512, 4,096 child entries, 1,024
@@ -175,7 +187,7 @@ pub fn fill(
     out: &mut [u8],
 ) -> usize {
     match reader::read_file(file) {
-        ReadFile::Refused(number, place) => refused_line(out, 0, number, place),
+        ReadFile::Refused(number, place) => refuse(out, number, place),
         ReadFile::Whole(ps) => fill_whole(
             file, ps, tokens, stack, scratch, nodes, children, records, report, out,
         ),

@@ -1,2 +1,2 @@
--- The laws that two functions' goals are closed by.
+-- The laws that several functions' goals are closed by.
 pub mod Nothing

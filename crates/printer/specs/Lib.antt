@@ -3,6 +3,7 @@ pub mod Writing
 pub mod Digits
 pub mod Lines
 pub mod TreeText
+pub mod Page
 pub mod Stored
 pub mod Shown
 pub mod ShownTree

@@ -1,7 +1,7 @@
 -- The tree's text from the bytes of productions, nodes and child entries, on any bytes, and the laws that its loop goes by.
 use Rattle.std.specs.Prelude.{◌&&◌, List, [], ◌∷◌, ◌++◌, ◌≢◌, ◌≡◌, refl, leb, ltb, eqb}
 use Prim.Native.Nat.{ℕ, zero, suc, ◌+◌, ◌*◌, ◌-◌, ◌≤◌, ◌<◌}
-use Rattle.std.proofs.Common.{sub-one}
+use Rattle.std.proofs.Common.{◌∙◌, sub-one}
 use native.Mathlib.Omega.{arith}
 use borrow.Author.Tests.{lt-ltb, le-ltb, lt-leb, le-leb, ne_eqb}
 use Rattle.words.specs.Words.{pick, word16, word32}
@@ -54,6 +54,14 @@ module _ (productions nodes children : List ℕ) (i : ℕ) where
   unfolding tree_text node_text
   tree_leaf zero z h = absurd (z refl)
   tree_leaf (suc m) z h = rw (lt-ltb _ _ h)
+
+  pub tree_token : (fuel : ℕ) → fuel ≢ 0 → word32 nodes (32 * i) ≡ 0 → tree_text fuel productions nodes children i ≡ 116 ∷ decimal (word32 nodes (32 * i + 4))
+  unfolding leaf_text leaf_byte
+  tree_token fuel z e = let h : word32 nodes (32 * i) < 2 = omega arith in tree_leaf fuel z h ∙ rw e
+
+  pub tree_mark : (fuel : ℕ) → fuel ≢ 0 → word32 nodes (32 * i) ≡ 1 → tree_text fuel productions nodes children i ≡ 33 ∷ decimal (word32 nodes (32 * i + 4))
+  unfolding leaf_text leaf_byte
+  tree_mark fuel z e = let h : word32 nodes (32 * i) < 2 = omega arith in tree_leaf fuel z h ∙ rw e
 
   pub tree_branch : (fuel : ℕ) → fuel ≢ 0 → 2 ≤ word32 nodes (32 * i) → tree_text fuel productions nodes children i ≡ head_text productions (word32 nodes (32 * i + 4)) ++ children_text (word32 nodes (32 * i + 12)) 0 productions nodes children (4 * word32 nodes (32 * i + 8)) (fuel - 1) ++ text "]"
   unfolding tree_text node_text children_text
