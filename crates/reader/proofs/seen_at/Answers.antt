@@ -3,6 +3,7 @@
 use borrow.Author.Tests.{eq-eqb, ne_eqb}
 use mathlib.Core.Path.{sym, ◌∙◌}
 use native.Mathlib.Omega.{arith}
+use Rattle.std.proofs.lemmas.Result.{err_from_is_err_and}
 use Rattle.reader.specs.Reading.{seen_at}
 use Rattle.reader.specs.Records.{whole}
 use Rattle.reader.proofs.seen_at.Goals as goal
@@ -21,6 +22,14 @@ get16-requires c = omega (arith, whole _ _ (sym c.cut.ensures ∙ c.if-cut.false
 pub get32-requires : goal.get32-requires
 get32-requires c = omega (arith, whole _ _ (sym c.cut.ensures ∙ c.if-cut.false))
 
+pub returns-in_err-judged : goal.returns-in_err-judged
+unfolding seen_at
+returns-in_err-judged c =
+    let p = err_from_is_err_and c.from_residual.result c.from_residual.ensures.1 in
+    rw (p.1, p.2)
+    (simp (ne_eqb _ _ c.if-at-s.false, ← c.cut.ensures, c.if-cut.false, ← c.get16.ensures, ← c.get32.ensures, ← c.judged.ensures, c.in_err-judged.was))
+
 pub returns : goal.returns
 unfolding seen_at
-returns c = simp (ne_eqb _ _ c.if-at-s.false, ← c.cut.ensures, c.if-cut.false, ← c.get16.ensures, ← c.get32.ensures) c.judged.ensures
+returns c =
+    simp (ne_eqb _ _ c.if-at-s.false, ← c.cut.ensures, c.if-cut.false, ← c.get16.ensures, ← c.get32.ensures, ← c.judged.ensures, c.in_ok-judged.was)

@@ -8,8 +8,8 @@ use Rattle.reader.proofs.widen_tokens.Goals as goal
 
 pub loop-i-init : goal.loop-i-init
 loop-i-init c =
-    let f = fitting_le _ _ _ c.fitting-n.ensures in
-    (omega arith, c.fitting-n.ensures, refl, widen_none _ _, f.0, f.1)
+    let f = fitting_le _ _ _ c.min-n.ensures in
+    (omega arith, c.min-n.ensures, refl, widen_none _ _, f.0, f.1)
 
 pub overflow_mul-i : goal.overflow_mul-i
 overflow_mul-i c = omega arith
@@ -19,12 +19,6 @@ overflow_mul-i-in-loop-i c = omega arith
 
 pub widen_token-requires : goal.widen_token-requires
 widen_token-requires c = (omega arith, omega arith)
-
-pub overflow_add-i : goal.overflow_add-i
-overflow_add-i c = omega arith
-
-pub loop-i-smaller : goal.loop-i-smaller
-loop-i-smaller c = omega arith
 
 pub loop-i-preserved : goal.loop-i-preserved
 loop-i-preserved c =
@@ -36,5 +30,5 @@ shape_of-out c = c.loop-i.invariant.2
 
 pub returns : goal.returns
 returns c = let v = c.loop-i.invariant in
-    let e : c.loop-i.i ≡ c.fitting-n.result = omega arith in
+    let e : c.loop-i.i ≡ c.min-n.result = omega arith in
     widened _ _ _ _ (λ k. omega (arith, c.type_inv.payload k)) v.1 (rw e at v.3)
