@@ -2,8 +2,6 @@
 // widened to a call's, the call is made, and its reply is written as document 01's lines.
 #![tactic(auto)]
 
-ghost use Rattle.std.specs.Prelude.{◌≡◌, ◌+◌, ◌≤◌, length};
-
 use chamrolak::{Returned, chamrolak_parse};
 use printer::{answer_lines, refused_line};
 use reader::{FileError, Payloads};
