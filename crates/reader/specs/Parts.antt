@@ -1,13 +1,13 @@
 -- The payloads of a file that is not refused lie inside it, and are the rules' tables and tokens.
-use Rattle.std.specs.Prelude.{List, [], ◌∷◌, ◌++◌, ◌≡◌, refl, ℕ, zero, suc, ◌+◌, ◌≤◌, leb, length, take, drop, None, Some, Ok, Err}
-use Rattle.std.proofs.Common.{sym, subst, arith}
+use Rattle.std.specs.Prelude.{List, [], ◌∷◌, ◌++◌, ◌≡◌, refl, ℕ, zero, suc, ◌+◌, ◌≤◌, ◌<◌, leb, length, get_or, take, drop, None, Some, Ok, Err}
+use Rattle.std.proofs.Common.{sym, subst, ◌∙◌, arith}
 use Rattle.words.specs.Words.{get32}
 use Rattle.words.specs.Laws.{pick_case}
 use Rattle.rules.specs.File.{records_from, file_of, max_file, Part, Filed, part_of, tables_of}
 use Rattle.reader.specs.declared.Payload.{Payload}
 use Rattle.reader.specs.declared.Payloads.{Payloads}
 use Rattle.reader.specs.declared.Record.{Record}
-use Rattle.reader.specs.Reading.{number_of, parts_of, filed_of, seen_at}
+use Rattle.reader.specs.Reading.{number_of, list_of, parts_of, filed_of, IsCutOf, AreCutOf, seen_at}
 use Rattle.reader.specs.Records.{Seen, found_so, sure_so, on_nothing, on_wrong, on_skipped, on_wanted}
 
 -- every part ends by the file's end
@@ -90,3 +90,12 @@ tables_cut s ps = refl
 pub tokens_cut : (s : List ℕ) (ps : Payloads) → part_of s (parts_of ps) 7 ≡ cut_out s ps.tokens
 unfolding part_of parts_of
 tokens_cut s ps = refl
+
+-- the slices that the reader hands on are those bytes
+pub tables_handed : (s : List ℕ) (ps : Payloads) → AreCutOf s ps → tables_of s (parts_of ps) ≡ record { sizes = ps.sizes.bytes.now; actions = ps.actions.bytes.now; gotos = ps.gotos.bytes.now; productions = ps.productions.bytes.now; rights = ps.rights.bytes.now; items = ps.items.bytes.now; sets = ps.sets.bytes.now }
+tables_handed s ps a =
+    let at : (k : ℕ) → k < 8 → IsCutOf s (get_or (list_of ps) k ps.sizes) = λ k h. a k ps.sizes h in
+    rw (tables_cut s ps, ← at 0 (omega arith), ← at 1 (omega arith), ← at 2 (omega arith), ← at 3 (omega arith), ← at 4 (omega arith), ← at 5 (omega arith), ← at 6 (omega arith))
+
+pub tokens_handed : (s : List ℕ) (ps : Payloads) → AreCutOf s ps → part_of s (parts_of ps) 7 ≡ ps.tokens.bytes.now
+tokens_handed s ps a = tokens_cut s ps ∙ sym (a 7 ps.sizes (omega arith))

@@ -3,7 +3,7 @@
 use Rattle.std.specs.Prelude.{List, ◌≡◌, ℕ, ◌*◌, ◌/◌, ◌≤◌, length, take, Result, Ok, Err}
 use Rattle.std.proofs.Common.{ap, ◌∙◌}
 use Rattle.rules.specs.Answers.{parse_reply}
-use Rattle.rules.specs.File.{file_of, tables_of, file_reply, program_limits, refused_line, show_reply, show_file, printed}
+use Rattle.rules.specs.File.{Filed, file_of, tables_of, file_reply, program_limits, refused_line, show_reply, show_file, printed}
 use Rattle.reader.specs.declared.Payloads.{Payloads}
 use Rattle.reader.specs.declared.FileError.{FileError}
 use Rattle.reader.specs.Reading.{number_of, parts_of, filed_of}
@@ -13,6 +13,10 @@ use Rattle.reader.specs.Tokens.{Widened, file_reply_law}
 by_reading : (s : List ℕ) (r : Result Payloads FileError) → filed_of r ≡ file_of s → printed s ≡ show_file s (filed_of r)
 unfolding printed
 by_reading s r e = rw e
+
+pub printed_refused_at : (s : List ℕ) (number place : ℕ) → Filed.refused_at number place ≡ file_of s → printed s ≡ refused_line number place
+unfolding printed show_file
+printed_refused_at s number place e = rw (← e)
 
 pub printed_refused : (s : List ℕ) (x : FileError) → filed_of (Err x) ≡ file_of s → printed s ≡ refused_line (number_of x.refusal) x.place
 unfolding filed_of show_file

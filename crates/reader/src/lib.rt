@@ -69,6 +69,7 @@ enum Record {
 // What a two-byte kind says by itself: its record is refused, it is skipped, or it holds whole entries of so many bytes.
 // "kinds 9 to 32767 are refused and 32768 up are skipped"; entries "of 2 bytes in kinds 2, 3 and 5, 4 in kind 4, 8 in 6, 33 in 7,
 // 10 in 8", and kind 1 is one entry of 12.
+#[tactic(auto, using(crate::specs::Reading::class_refused, crate::specs::Reading::class_skipped), unfolding(crate::specs::Reading::class_of))]
 pub fn class_of(kind: u16) -> Result<Option<usize>, Refusal>
     ensures { result ≡ class_of kind }
 {
@@ -86,6 +87,7 @@ pub fn class_of(kind: u16) -> Result<Option<usize>, Refusal>
 }
 
 // "32 length wrong (kind 1: not 12 bytes; else not whole entries ..)", for a kind from 1 to 8 whose entries are `entry` bytes long
+#[tactic(auto, unfolding(crate::specs::Reading::fitted_of))]
 fn fitted(kind: usize, entry: usize, size: usize, want: usize) -> Result<Record, Refusal>
     requires { 0 < entry }
     ensures { result ≡ fitted_of kind entry size want }
@@ -93,37 +95,33 @@ fn fitted(kind: usize, entry: usize, size: usize, want: usize) -> Result<Record,
     if kind != want {
         return Err(Refusal::Kind);
     }
-    if kind == 1 {
-        if size == 12 {
-            return Ok(Record::Wanted(size));
-        }
-        return Err(Refusal::Length);
+    let fits = if kind == 1 { size == 12 } else { size % entry == 0 };
+    if fits {
+        Ok(Record::Wanted(size))
+    } else {
+        Err(Refusal::Length)
     }
-    if size % entry == 0 {
-        return Ok(Record::Wanted(size));
-    }
-    Err(Refusal::Length)
 }
 
 // "30 cut record"
+#[tactic(auto, using(crate::specs::Reading::cut_head, crate::specs::Reading::cut_payload))]
 fn cut(s: &[u8], at: usize) -> bool
     requires { at ≤ length s.now }
     ensures { result ≡ is_cut s.now at }
 {
-    if s.len() - at < 6 {
-        return true;
-    }
-    s.len() - at - 6 < get32(s, at) as usize
+    s.len() - at < 6 || s.len() - at - 6 < get32(s, at) as usize
 }
 
 // Where the file ends: "missing" is a file that ends before kind 8.
+#[tactic(auto, unfolding(crate::specs::Reading::ended_of))]
 fn ended(want: usize) -> Result<Option<Record>, Refusal>
     ensures { result ≡ ended_of want }
 {
     if want == 9 {
-        return Ok(None);
+        Ok(None)
+    } else {
+        Err(Refusal::Kind)
     }
-    Err(Refusal::Kind)
 }
 
 // A record that is not cut, by its kind and its payload's length, where kind `want` is the next.
@@ -216,6 +214,7 @@ pub fn read_file(s: &[u8]) -> Result<Payloads<'_>, FileError>
 }
 
 // The token at `from` of a payload as three 32-bit words at `at` of a room.
+#[tactic(auto, unfolding(crate::specs::Tokens::widen_token))]
 fn widen_token(payload: &[u8], from: usize, out: &mut [u8], at: usize)
     requires { (from + 10 ≤ length payload.now) × (at + 12 ≤ length out.old) }
     ensures { out.new ≡ widen_token payload.now from out.old at }
