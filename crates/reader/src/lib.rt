@@ -69,7 +69,7 @@ enum Record {
 // What a two-byte kind says by itself: its record is refused, it is skipped, or it holds whole entries of so many bytes.
 // "kinds 9 to 32767 are refused and 32768 up are skipped"; entries "of 2 bytes in kinds 2, 3 and 5, 4 in kind 4, 8 in 6, 33 in 7,
 // 10 in 8", and kind 1 is one entry of 12.
-#[tactic(auto, using(crate::specs::Reading::class_refused, crate::specs::Reading::class_skipped), unfolding(crate::specs::Reading::class_of))]
+#[tactic(auto, unfolding(crate::specs::Reading::class_of))]
 pub fn class_of(kind: u16) -> Result<Option<usize>, Refusal>
     ensures { result ≡ class_of kind }
 {
@@ -125,6 +125,7 @@ fn ended(want: usize) -> Result<Option<Record>, Refusal>
 }
 
 // A record that is not cut, by its kind and its payload's length, where kind `want` is the next.
+#[tactic(auto, using(crate::specs::Reading::by_class, crate::specs::Reading::positive_entries))]
 fn judged(kind: u16, size: usize, want: usize) -> Result<Record, Refusal>
     requires { 1 ≤ want }
     ensures { result ≡ seen_of kind size want }
@@ -137,6 +138,7 @@ fn judged(kind: u16, size: usize, want: usize) -> Result<Record, Refusal>
 
 // What stands at a place, or nothing more: "30 cut record, 31 kind wrong or missing, 32 length wrong .. in that order record by
 // record".
+#[tactic(auto, unfolding(crate::specs::Reading::seen_at))]
 fn seen_at(s: &[u8], at: usize, want: usize) -> Result<Option<Record>, Refusal>
     requires { (at ≤ length s.now) × (1 ≤ want) }
     ensures { result ≡ seen_at s.now at want }

@@ -11,22 +11,10 @@ loop-i-init c =
     let f = fitting_le _ _ _ c.min-n.ensures in
     (omega arith, c.min-n.ensures, refl, widen_none _ _, f.0, f.1)
 
-pub overflow_mul-i : goal.overflow_mul-i
-overflow_mul-i c = omega arith
-
-pub overflow_mul-i-in-loop-i : goal.overflow_mul-i-in-loop-i
-overflow_mul-i-in-loop-i c = omega arith
-
-pub widen_token-requires : goal.widen_token-requires
-widen_token-requires c = (omega arith, omega arith)
-
 pub loop-i-preserved : goal.loop-i-preserved
 loop-i-preserved c =
     let v = c.loop-i.invariant in
     (omega arith, v.1, c.widen_token.auto.out ∙ v.2, c.widen_token.ensures ∙ widen_step _ _ _ _ (omega arith) v.3, v.4, v.5)
-
-pub shape_of-out : goal.shape_of-out
-shape_of-out c = c.loop-i.invariant.2
 
 pub returns : goal.returns
 returns c = let v = c.loop-i.invariant in
