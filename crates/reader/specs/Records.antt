@@ -104,9 +104,13 @@ module _ (s : List ℕ) (at want : ℕ) (x : Seen) (e : seen_at s at want ≡ x)
   sure_so = subst (λ (y : Seen). Sure y s at want) e (sure s at want)
 
 -- a record that is found, by the steps that take it out of what the code returns
-pub seen_record : (s : List ℕ) (at want : ℕ) (x : Result (Option Record) FileError) (o : Option Record) (r k : Record) → x ≡ placed at (seen_at s at want) → x ≡ Ok o → o ≡ Some r → r ≡ k → seen_at s at want ≡ Ok (Some k)
-seen_record s at want x o r k p e f g =
-    let q : placed at (seen_at s at want) ≡ Ok (Some k) = cc in placed_ok (seen_at s at want) at (Some k) q
+module _ (s : List ℕ) (at want : ℕ) (x : Result (Option Record) FileError) (o : Option Record) (r k : Record) where
+  pub seen_record : x ≡ placed at (seen_at s at want) → x ≡ Ok o → o ≡ Some r → r ≡ k → seen_at s at want ≡ Ok (Some k)
+  seen_record p e f g =
+      let q : placed at (seen_at s at want) ≡ Ok (Some k) = cc in placed_ok (seen_at s at want) at (Some k) q
+
+  pub sure_record : x ≡ placed at (seen_at s at want) → x ≡ Ok o → o ≡ Some r → r ≡ k → Sure (Ok (Some k)) s at want
+  sure_record p e f g = sure_so s at want (Ok (Some k)) (seen_record p e f g)
 
 -- more fuel than there are bytes left changes nothing
 abbrev Same : ℕ → ℕ → List ℕ → Type 0

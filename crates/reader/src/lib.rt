@@ -95,7 +95,11 @@ fn fitted(kind: usize, entry: usize, size: usize, want: usize) -> Result<Record,
     if kind != want {
         return Err(Refusal::Kind);
     }
-    let fits = if kind == 1 { size == 12 } else { size % entry == 0 };
+    let fits = if kind == 1 {
+        size == 12
+    } else {
+        size % entry == 0
+    };
     if fits {
         Ok(Record::Wanted(size))
     } else {
