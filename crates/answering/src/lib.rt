@@ -2,26 +2,26 @@
 // widened to a call's, the call is made, and its reply is written as document 01's lines.
 #![tactic(auto)]
 
-ghost use Rattle.std.specs.Prelude.{◌≡◌, ◌+◌, ◌≤◌, min, length, take, drop};
-ghost use Rattle.rules.specs.File.{file_of, refused_line};
+ghost use Rattle.std.specs.Prelude.{◌≡◌};
+ghost use Rattle.rules.specs.File.{refused_line};
 ghost use Rattle.printer.specs.Writing.{Wrote};
-ghost use Rattle.reader.specs.declared.ReadFile.{ReadFile};
-ghost use Rattle.reader.specs.Reading.{filed_of};
 
-use chamrolak::chamrolak_parse;
+use chamrolak::{Returned, chamrolak_parse};
 use printer::{Answer, Page, Trees};
-use reader::{Payload, Payloads, ReadFile};
+use reader::{FileError, Payloads};
 use words::{get32, put32};
 
-// So many entries of a room, in bytes, and never more than the room has.
-fn within(bytes: usize, room: usize) -> usize
-    ensures upper_bound { result ≤ room }
-    ensures value { result ≡ min bytes room }
-{
-    if bytes < room {
-        return bytes;
-    }
-    room
+// The rooms of a call, and one for the tokens of the longest file. "Limits: 1,000,000 units, depth 512, 4,096 child entries, 1,024
+// nodes, 64 records": so long are they.
+#[derive(Drop)]
+pub struct Rooms {
+    pub tokens: [u8; 78636],
+    pub stack: [u8; 16384],
+    pub scratch: [u8; 2048],
+    pub nodes: [u8; 32768],
+    pub children: [u8; 16384],
+    pub records: [u8; 4096],
+    pub report: [u8; 64],
 }
 
 // The line of a refusal, from the front of `out` on, and the place behind it.
@@ -35,24 +35,22 @@ fn refuse(out: &mut [u8], number: usize, place: usize) -> usize
 
 // The lines of a reply, by what a call returned and left. A refusal touches no room, so a report whose first word was 0 still has it;
 // an answer's report begins with its number, which is not 0.
-fn tell(
-    number: u32,
-    value: u32,
-    productions: &[u8],
-    nodes: &[u8],
-    children: &[u8],
-    records: &[u8],
-    report: &[u8],
-    out: &mut [u8],
-) -> usize
-    requires { length report.now ≡ 64 }
-{
+fn tell(returned: Returned, productions: &[u8], rooms: &Rooms, out: &mut [u8]) -> usize {
+    let Returned { number, value } = returned;
+    let Rooms {
+        nodes,
+        children,
+        records,
+        report,
+        ..
+    } = rooms;
     let answer = get32(report, 0);
     if answer == 0 {
         return refuse(out, number as usize, value as usize);
     }
-    let n = within(get32(report, 20) as usize * 32, nodes.len());
-    let k = within(get32(report, 24) as usize * 4, children.len());
+    // So many entries of a room, in bytes, and never more than the room has.
+    let n = (get32(report, 20) as usize * 32).min(nodes.len());
+    let k = (get32(report, 24) as usize * 4).min(children.len());
     let mut page = Page::new(out);
     page.answer_lines(&Answer {
         number: answer as usize,
@@ -71,125 +69,35 @@ fn tell(
     page.at
 }
 
-// The call on the payloads and the widened tokens, and its lines. "Limits: 1,000,000 units, depth 512, 4,096 child entries, 1,024
-// nodes, 64 records; start location 0": the rooms have these lengths.
-fn answer(
-    sizes: &[u8],
-    actions: &[u8],
-    gotos: &[u8],
-    productions: &[u8],
-    rights: &[u8],
-    items: &[u8],
-    sets: &[u8],
-    tokens: &[u8],
-    stack: &mut [u8; 16384],
-    scratch: &mut [u8; 2048],
-    nodes: &mut [u8; 32768],
-    children: &mut [u8; 16384],
-    records: &mut [u8; 4096],
-    report: &mut [u8; 64],
-    out: &mut [u8],
-) -> usize {
-    put32(report, 0, 0);
+// The call on the payloads and the widened tokens, and its lines. "start location 0"
+fn answer(payloads: Payloads<'_>, rooms: &mut Rooms, out: &mut [u8]) -> usize {
+    let end = 12 * reader::widen_tokens(payloads.tokens.bytes, &mut rooms.tokens);
+    put32(&mut rooms.report, 0, 0);
     let returned = chamrolak_parse(
-        sizes,
-        actions,
-        gotos,
-        productions,
-        rights,
-        items,
-        sets,
-        tokens,
+        payloads.sizes.bytes,
+        payloads.actions.bytes,
+        payloads.gotos.bytes,
+        payloads.productions.bytes,
+        payloads.rights.bytes,
+        payloads.items.bytes,
+        payloads.sets.bytes,
+        &rooms.tokens[..end],
         0,
         1000000,
-        stack,
-        scratch,
-        nodes,
-        children,
-        records,
-        report,
+        &mut rooms.stack,
+        &mut rooms.scratch,
+        &mut rooms.nodes,
+        &mut rooms.children,
+        &mut rooms.records,
+        &mut rooms.report,
     );
-    tell(
-        returned.number,
-        returned.value,
-        productions,
-        nodes,
-        children,
-        records,
-        report,
-        out,
-    )
-}
-
-// A payload's bytes, as a part of the file.
-fn part(s: &[u8], p: Payload) -> &[u8]
-    requires { p.start + p.size ≤ length s.now }
-    ensures { result.now ≡ take p.size (drop p.start s.now) }
-{
-    let a = p.start;
-    let e = a + p.size;
-    &s[a..e]
-}
-
-// The tokens of a payload as a call takes them, and how many bytes these are.
-fn widen(file: &[u8], p: Payload, tokens: &mut [u8]) -> usize
-    requires { (p.start + p.size ≤ length file.now) × (length tokens.old ≡ 78636) }
-    ensures { result ≤ 78636 }
-{
-    12 * reader::widen_tokens(part(file, p), tokens)
-}
-
-// A file that is not refused: its payloads are parts of it, and only its tokens are copied.
-fn fill_whole(
-    file: &[u8],
-    ps: Payloads,
-    tokens: &mut [u8],
-    stack: &mut [u8; 16384],
-    scratch: &mut [u8; 2048],
-    nodes: &mut [u8; 32768],
-    children: &mut [u8; 16384],
-    records: &mut [u8; 4096],
-    report: &mut [u8; 64],
-    out: &mut [u8],
-) -> usize
-    requires { (filed_of (ReadFile.Whole ps) ≡ file_of file.now) × (length tokens.old ≡ 78636) }
-{
-    let end = widen(file, ps.tokens, tokens);
-    answer(
-        part(file, ps.sizes),
-        part(file, ps.actions),
-        part(file, ps.gotos),
-        part(file, ps.productions),
-        part(file, ps.rights),
-        part(file, ps.items),
-        part(file, ps.sets),
-        &tokens[..end],
-        stack,
-        scratch,
-        nodes,
-        children,
-        records,
-        report,
-        out,
-    )
+    tell(returned, payloads.productions.bytes, rooms, out)
 }
 
 // What the program prints for a file, from the front of `out` on, and the place behind it.
-pub fn fill(
-    file: &[u8],
-    tokens: &mut [u8; 78636],
-    stack: &mut [u8; 16384],
-    scratch: &mut [u8; 2048],
-    nodes: &mut [u8; 32768],
-    children: &mut [u8; 16384],
-    records: &mut [u8; 4096],
-    report: &mut [u8; 64],
-    out: &mut [u8],
-) -> usize {
+pub fn fill(file: &[u8], rooms: &mut Rooms, out: &mut [u8]) -> usize {
     match reader::read_file(file) {
-        ReadFile::Refused(number, place) => refuse(out, number, place),
-        ReadFile::Whole(ps) => fill_whole(
-            file, ps, tokens, stack, scratch, nodes, children, records, report, out,
-        ),
+        Err(FileError { refusal, place }) => refuse(out, refusal.number(), place),
+        Ok(payloads) => answer(payloads, rooms, out),
     }
 }

@@ -1,15 +1,14 @@
 -- The payloads of a file that is not refused lie inside it, and are the rules' tables and tokens.
-use Rattle.std.specs.Prelude.{List, [], ◌∷◌, ◌++◌, ◌≡◌, refl, ℕ, zero, suc, ◌+◌, ◌≤◌, leb, length, take, drop}
-use Rattle.std.proofs.Common.{sym, subst, arith}
+use Rattle.std.specs.Prelude.{List, [], ◌∷◌, ◌++◌, ◌≡◌, refl, ℕ, zero, suc, ◌+◌, ◌≤◌, ◌<◌, leb, length, get_or, take, drop, None, Some, Ok, Err}
+use Rattle.std.proofs.Common.{sym, subst, ◌∙◌, arith}
 use Rattle.words.specs.Words.{get32}
 use Rattle.words.specs.Laws.{pick_case}
 use Rattle.rules.specs.File.{records_from, file_of, max_file, Part, Filed, part_of, tables_of}
 use Rattle.reader.specs.declared.Payload.{Payload}
 use Rattle.reader.specs.declared.Payloads.{Payloads}
-use Rattle.reader.specs.declared.ReadFile.{ReadFile}
-use Rattle.reader.specs.declared.Seen.{Seen}
-use Rattle.reader.specs.Reading.{parts_of, filed_of, seen_at}
-use Rattle.reader.specs.Records.{found_so, sure_so, on_nothing, on_wrong, on_skipped, on_wanted}
+use Rattle.reader.specs.declared.Record.{Record}
+use Rattle.reader.specs.Reading.{number_of, list_of, parts_of, filed_of, IsCutOf, AreCutOf, seen_at}
+use Rattle.reader.specs.Records.{Seen, found_so, sure_so, on_nothing, on_wrong, on_skipped, on_wanted}
 
 -- every part ends by the file's end
 abbrev pub AllIn : ℕ → List Part → Type 0
@@ -28,15 +27,15 @@ abbrev FineFrom : ℕ → List ℕ → Type 0
 FineFrom n s = (at want : ℕ) (found : List Part) → AllIn (length s) found → Fine (length s) (records_from n s at want found)
 
 fine_turn : (n : ℕ) (s : List ℕ) (at want : ℕ) (found : List Part) (x : Seen) → seen_at s at want ≡ x → AllIn (length s) found → FineFrom n s → Fine (length s) (records_from (suc n) s at want found)
-fine_turn n s at want found Seen.Nothing e a r = rw (on_nothing s at want found n (found_so s at want Seen.Nothing e)) a
-fine_turn n s at want found (Seen.Wrong k) e a r = rw (on_wrong s at want found n k (found_so s at want (Seen.Wrong k) e)) tt
-fine_turn n s at want found (Seen.Skipped size) e a r =
-    rw (on_skipped s at want found n (found_so s at want (Seen.Skipped size) e)) (r (at + 6 + get32 s at) want found a)
-fine_turn n s at want found (Seen.Wanted size) e a r =
-    let q = sure_so s at want (Seen.Wanted size) e in
+fine_turn n s at want found (Ok None) e a r = rw (on_nothing s at want found n (found_so s at want (Ok None) e)) a
+fine_turn n s at want found (Err k) e a r = rw (on_wrong s at want found n (number_of k) (found_so s at want (Err k) e)) tt
+fine_turn n s at want found (Ok (Some (Record.Skipped size))) e a r =
+    rw (on_skipped s at want found n (found_so s at want (Ok (Some (Record.Skipped size))) e)) (r (at + 6 + get32 s at) want found a)
+fine_turn n s at want found (Ok (Some (Record.Wanted size))) e a r =
+    let q = sure_so s at want (Ok (Some (Record.Wanted size))) e in
     let p : Part = record { start = at + 6; size = get32 s at } in
     let h : at + 6 + get32 s at ≤ length s = omega arith in
-    rw (on_wanted s at want found n (found_so s at want (Seen.Wanted size) e))
+    rw (on_wanted s at want found n (found_so s at want (Ok (Some (Record.Wanted size))) e))
     (r (at + 6 + get32 s at) (want + 1) (found ++ (p ∷ [])) (all_in_snoc (length s) found p a h))
 
 fine_from : (n : ℕ) (s : List ℕ) → FineFrom n s
@@ -54,17 +53,17 @@ fine_file s =
 
 -- where each payload ends
 pub record Inside (n : ℕ) (ps : Payloads) : Type 0 where
-  pub sizes : ps.sizes.start + ps.sizes.size ≤ n
-  pub actions : ps.actions.start + ps.actions.size ≤ n
-  pub gotos : ps.gotos.start + ps.gotos.size ≤ n
-  pub productions : ps.productions.start + ps.productions.size ≤ n
-  pub rights : ps.rights.start + ps.rights.size ≤ n
-  pub items : ps.items.start + ps.items.size ≤ n
-  pub sets : ps.sets.start + ps.sets.size ≤ n
-  pub tokens : ps.tokens.start + ps.tokens.size ≤ n
+  pub sizes : ps.sizes.start + length ps.sizes.bytes.now ≤ n
+  pub actions : ps.actions.start + length ps.actions.bytes.now ≤ n
+  pub gotos : ps.gotos.start + length ps.gotos.bytes.now ≤ n
+  pub productions : ps.productions.start + length ps.productions.bytes.now ≤ n
+  pub rights : ps.rights.start + length ps.rights.bytes.now ≤ n
+  pub items : ps.items.start + length ps.items.bytes.now ≤ n
+  pub sets : ps.sets.start + length ps.sets.bytes.now ≤ n
+  pub tokens : ps.tokens.start + length ps.tokens.bytes.now ≤ n
 
 -- the payloads that the reader gives lie inside the file
-pub inside : (s : List ℕ) (ps : Payloads) → filed_of (ReadFile.Whole ps) ≡ file_of s → Inside (length s) ps
+pub inside : (s : List ℕ) (ps : Payloads) → filed_of (Ok ps) ≡ file_of s → Inside (length s) ps
 unfolding filed_of parts_of
 inside s ps e =
     let a : AllIn (length s) (parts_of ps) = subst (Fine (length s)) (sym e) (fine_file s) in
@@ -81,7 +80,7 @@ inside s ps e =
 
 -- a payload's bytes, as `&s[start..start + size]` has them
 abbrev pub cut_out : List ℕ → Payload → List ℕ
-cut_out s p = take p.size (drop p.start s)
+cut_out s p = take (length p.bytes.now) (drop p.start s)
 
 -- the rules' tables and tokens are the payloads' bytes
 pub tables_cut : (s : List ℕ) (ps : Payloads) → tables_of s (parts_of ps) ≡ record { sizes = cut_out s ps.sizes; actions = cut_out s ps.actions; gotos = cut_out s ps.gotos; productions = cut_out s ps.productions; rights = cut_out s ps.rights; items = cut_out s ps.items; sets = cut_out s ps.sets }
@@ -91,3 +90,12 @@ tables_cut s ps = refl
 pub tokens_cut : (s : List ℕ) (ps : Payloads) → part_of s (parts_of ps) 7 ≡ cut_out s ps.tokens
 unfolding part_of parts_of
 tokens_cut s ps = refl
+
+-- the slices that the reader hands on are those bytes
+pub tables_handed : (s : List ℕ) (ps : Payloads) → AreCutOf s ps → tables_of s (parts_of ps) ≡ record { sizes = ps.sizes.bytes.now; actions = ps.actions.bytes.now; gotos = ps.gotos.bytes.now; productions = ps.productions.bytes.now; rights = ps.rights.bytes.now; items = ps.items.bytes.now; sets = ps.sets.bytes.now }
+tables_handed s ps a =
+    let at : (k : ℕ) → k < 8 → IsCutOf s (get_or (list_of ps) k ps.sizes) = λ k h. a k ps.sizes h in
+    rw (tables_cut s ps, ← at 0 (omega arith), ← at 1 (omega arith), ← at 2 (omega arith), ← at 3 (omega arith), ← at 4 (omega arith), ← at 5 (omega arith), ← at 6 (omega arith))
+
+pub tokens_handed : (s : List ℕ) (ps : Payloads) → AreCutOf s ps → part_of s (parts_of ps) 7 ≡ ps.tokens.bytes.now
+tokens_handed s ps a = tokens_cut s ps ∙ sym (a 7 ps.sizes (omega arith))

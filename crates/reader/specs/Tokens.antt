@@ -1,8 +1,8 @@
 -- A file's tokens in the form of a call: 10 bytes each become 12, three 32-bit words.
-use Rattle.std.specs.Prelude.{List, [], ◌∷◌, ◌++◌, Bool, true, false, ◌&&◌, ◌≡◌, refl, ℕ, zero, suc, ◌+◌, ◌*◌, ◌/◌, ◌%◌, ◌≤◌, ◌<◌, ◌^◌, leb, length, get_or, take, drop}
+use Rattle.std.specs.Prelude.{List, [], ◌∷◌, ◌++◌, Bool, true, false, ◌&&◌, ◌≡◌, refl, ℕ, zero, suc, ◌+◌, ◌*◌, ◌/◌, ◌%◌, ◌≤◌, ◌<◌, ◌^◌, min, leb, length, get_or, take, drop}
 use Rattle.std.proofs.Common.{append_assoc, append-nil, sym, ap, ◌∙◌, add-one, arith, le-leb, length-append, length-drop, drop-drop, take_at}
-use Rattle.words.specs.Words.{pick, le4, get16, get32, put32, word32}
-use Rattle.words.specs.Laws.{Bytes, length_le4, put32_end, get32_append, get16_lt, get32_lt, word32_in, pick_leb}
+use Rattle.words.specs.Words.{le4, get16, get32, put32, word32}
+use Rattle.words.specs.Laws.{Bytes, length_le4, put32_end, get32_append, get16_lt, get32_lt, word32_in}
 use Rattle.rules.specs.declared.Token.{Token}
 use Rattle.rules.specs.Basics.{all_below}
 use Rattle.rules.specs.Tables.{Tables}
@@ -11,8 +11,8 @@ use Rattle.rules.specs.Answers.{tokens_from, tokens_of, drive_reply, parse_reply
 use Rattle.rules.specs.File.{file_tokens, file_reply, program_limits}
 
 -- the tokens of a payload that fit a room
-unfoldable pub fitting_of : ℕ → ℕ → ℕ
-fitting_of payload room = pick (leb (payload / 10) (room / 12)) (payload / 10) (room / 12)
+abbrev pub fitting_of : ℕ → ℕ → ℕ
+fitting_of payload room = min (payload / 10) (room / 12)
 
 -- the token at `from` as three words at `at`
 unfoldable pub widen_token : List ℕ → ℕ → List ℕ → ℕ → List ℕ
@@ -34,12 +34,7 @@ pub record Widened (payload entry exit : List ℕ) (n : ℕ) : Type 0 where
 -- ---- the counts
 
 pub fitting_le : (p r n : ℕ) → n ≡ fitting_of p r → (10 * n ≤ p) × (12 * n ≤ r)
-unfolding fitting_of
-fitting_le p r n e =
-    rw e
-    (pick_leb (λ n. (10 * n ≤ p) × (12 * n ≤ r)) (p / 10) (r / 12) (p / 10) (r / 12)
-    (λ h. (omega arith, omega arith))
-    (λ h. (omega arith, omega arith)))
+fitting_le p r n e = (omega arith, omega arith)
 
 length_tokens : (s : List ℕ) (at n : ℕ) → length (file_tokens s at n) ≡ n
 unfolding file_tokens
@@ -172,7 +167,7 @@ widen_none s entry = refl
 
 -- What the program answers for a file is what a call answers for its tables and its widened tokens.
 pub file_reply_law : (T : Tables) (payload entry exit : List ℕ) (n : ℕ) → Widened payload entry exit n → length payload / 10 ≤ length entry / 12 → file_reply T payload ≡ parse_reply T (take (12 * n) exit) 0 program_limits
-unfolding file_reply parse_reply drive_reply fitting_of
+unfolding file_reply parse_reply drive_reply
 file_reply_law T payload entry exit n w h =
-    let c : length payload / 10 ≡ n = sym (w.count ∙ rw (le-leb _ _ h)) in
+    let c : length payload / 10 ≡ n = omega (arith, w.count) in
     rw (c, w.allowed, w.tokens)

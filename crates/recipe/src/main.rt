@@ -4,6 +4,7 @@
 
 ghost use Rattle.std.specs.Prelude.{◌≡◌, ◌≤◌, length, IfOk};
 
+use answering::Rooms;
 use std::io;
 use std::io::{Read, Write};
 
@@ -19,6 +20,7 @@ fn main(rt: HostRuntime) -> io::Result<()> {
 }
 
 // Reads until the buffer is full or the input ends, and says how many bytes are at the buffer's start. A read that fails is told.
+// A loop: `read_exact` fails where the input ends before the buffer, and `read_to_end` needs the heap.
 fn read_full<R: Read>(input: &mut R, buf: &mut [u8]) -> io::Result<usize>
     ensures { IfOk result (λ n. n ≤ length buf.new) }
 {
@@ -33,29 +35,23 @@ fn read_full<R: Read>(input: &mut R, buf: &mut [u8]) -> io::Result<usize>
     Ok(done)
 }
 
-// "Limits: 1,000,000 units, depth 512, 4,096 child entries, 1,024 nodes, 64 records": the rooms of a call, and one for the tokens of
-// the longest file.
 fn answer(rt: &HostRuntime, file: &[u8]) -> io::Result<()> {
-    let mut tokens = [0u8; 78636];
-    let mut stack = [0u8; 16384];
-    let mut scratch = [0u8; 2048];
-    let mut nodes = [0u8; 32768];
-    let mut children = [0u8; 16384];
-    let mut records = [0u8; 4096];
-    let mut report = [0u8; 64];
+    let mut rooms = rooms();
     let mut out = zeros::<524288>();
-    let end = answering::fill(
-        file,
-        &mut tokens,
-        &mut stack,
-        &mut scratch,
-        &mut nodes,
-        &mut children,
-        &mut records,
-        &mut report,
-        &mut out,
-    );
+    let end = answering::fill(file, &mut rooms, &mut out);
     print(rt, &out, end)
+}
+
+fn rooms() -> Rooms {
+    Rooms {
+        tokens: zeros(),
+        stack: zeros(),
+        scratch: zeros(),
+        nodes: zeros(),
+        children: zeros(),
+        records: zeros(),
+        report: zeros(),
+    }
 }
 
 // Its contract tells the length alone: a proof that has so many zeros before it would unfold them one by one.
@@ -72,10 +68,8 @@ fn print(rt: &HostRuntime, out: &[u8], end: usize) -> io::Result<()> {
             .stderr()
             .write_all(b"recipe: the answer is too long to print\n");
     }
-    match rt.stdout().write_all(&out[..end]) {
-        Ok(()) => Ok(()),
-        Err(_) => rt
-            .stderr()
-            .write_all(b"recipe: standard output could not be written\n"),
-    }
+    rt.stdout().write_all(&out[..end]).or_else(|_| {
+        rt.stderr()
+            .write_all(b"recipe: standard output could not be written\n")
+    })
 }

@@ -7,34 +7,18 @@ use Rattle.reader.specs.Tokens.{fitting_le, widen_none, widen_step, widened}
 use Rattle.reader.proofs.widen_tokens.Goals as goal
 
 pub loop-i-init : goal.loop-i-init
-loop-i-init c =
-    let f = fitting_le _ _ _ c.fitting-n.ensures in
-    (omega arith, c.fitting-n.ensures, refl, widen_none _ _, f.0, f.1)
-
-pub overflow_mul-i : goal.overflow_mul-i
-overflow_mul-i c = omega arith
-
-pub overflow_mul-i-in-loop-i : goal.overflow_mul-i-in-loop-i
-overflow_mul-i-in-loop-i c = omega arith
-
-pub widen_token-requires : goal.widen_token-requires
-widen_token-requires c = (omega arith, omega arith)
-
-pub overflow_add-i : goal.overflow_add-i
-overflow_add-i c = omega arith
-
-pub loop-i-smaller : goal.loop-i-smaller
-loop-i-smaller c = omega arith
+loop-i-init c = record { same_length = refl; widened = widen_none _ _ }
 
 pub loop-i-preserved : goal.loop-i-preserved
 loop-i-preserved c =
     let v = c.loop-i.invariant in
-    (omega arith, v.1, c.widen_token.auto.out ∙ v.2, c.widen_token.ensures ∙ widen_step _ _ _ _ (omega arith) v.3, v.4, v.5)
-
-pub shape_of-out : goal.shape_of-out
-shape_of-out c = c.loop-i.invariant.2
+    let f = fitting_le _ _ _ c.min-n.ensures in
+    record {
+      same_length = c.widen_token.auto.out ∙ v.same_length;
+      widened = c.widen_token.ensures ∙ widen_step _ _ _ _ (omega arith) v.widened;
+    }
 
 pub returns : goal.returns
-returns c = let v = c.loop-i.invariant in
-    let e : c.loop-i.i ≡ c.fitting-n.result = omega arith in
-    widened _ _ _ _ (λ k. omega (arith, c.type_inv.payload k)) v.1 (rw e at v.3)
+returns c =
+    let e : c.loop-i.i ≡ c.min-n.result = omega arith in
+    widened _ _ _ _ (λ k. omega (arith, c.type_inv.payload k)) c.min-n.ensures (rw e at c.loop-i.invariant.widened)

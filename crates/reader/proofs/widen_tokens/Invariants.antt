@@ -3,14 +3,15 @@
 -- Assumes nothing.
 use mathlib.Core.List.{◌++◌}
 use mathlib.Core.Path.{◌≡◌}
-use Prim.Native.Nat.{◌*◌, ◌-◌, ◌≤◌}
+use Prim.Native.Nat.{◌*◌}
 use lib.ListN.{length, drop}
 use Rattle.rules.specs.File.{file_tokens}
-use Rattle.reader.specs.Tokens.{fitting_of, call_bytes}
+use Rattle.reader.specs.Tokens.{call_bytes}
 use Rattle.reader.proofs.widen_tokens.Given as goal
 
 abbrev pub invariant-loop-i : goal.invariant-loop-i
-invariant-loop-i l = (l.i ≤ l.n) × (l.n ≡ fitting_of (length l.payload) (length l.initial.out)) × (length l.out ≡ length l.initial.out) × (l.out ≡ call_bytes (file_tokens l.payload 0 l.i) ++ drop (12 * l.i) l.initial.out) × (10 * l.n ≤ length l.payload) × (12 * l.n ≤ length l.initial.out)
-
-abbrev pub decreases-loop-i : goal.decreases-loop-i
-decreases-loop-i l = l.n - l.i
+invariant-loop-i l =
+    record {
+      same_length : length l.out ≡ length l.initial.out;
+      widened : l.out ≡ call_bytes (file_tokens l.payload 0 l.i) ++ drop (12 * l.i) l.initial.out;
+    }
