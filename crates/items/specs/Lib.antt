@@ -1,7 +1,3 @@
--- What the contracts of `items` cite: tests over a range, bounds, the items and their lookup, transitions, and test 16 over single
--- slices.
-pub mod Ranges
-pub mod Bounds
+-- What the contracts of `items` cite: the items' lookup, and a scan that skips places.
 pub mod Lookup
-pub mod Moves
-pub mod Reducing
+pub mod Ranges

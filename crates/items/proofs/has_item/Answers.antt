@@ -1,26 +1,22 @@
--- `items::has_item` scans from the front: no item passed matches, so the first that matches is found, and the end means there
--- is none.
+-- `items::has_item` is the scan of the rules, for any lookahead or for a given one.
 -- Assumes nothing.
-use borrow.Author.Rules.{rules}
-use mathlib.Core.Path.{sym}
-use Rattle.items.specs.Ranges.{any_none, any_more, any_found, any_done}
-use Rattle.items.specs.Lookup.{matches, has_in}
+use Rattle.std.proofs.Common.{rules, ◌&&◌}
+use Rattle.std.proofs.Math.Dec.{eqb}
+use Rattle.rules.specs.Tables.{item_at}
+use Rattle.rules.specs.Check.{is_at, has_item, has_item_for}
+use Rattle.items.specs.Lookup.{has_item_with}
 use Rattle.items.proofs.has_item.Goals as goal
 
-pub loop-i-init : goal.loop-i-init
-loop-i-init c = (search rules, any_none _)
-
-pub returns-then-matches : goal.returns-then-matches
-unfolding has_in
-returns-then-matches c =
+pub returns-in-None : goal.returns-in-None
+unfolding has_item_with has_item
+returns-in-None c =
     let a = c.args in
-    let test = matches a.items.now a.state a.production a.dot a.any a.lookahead in
-    sym (any_found test _ _ _ (search rules) c.matches.ensures c.if-matches.true)
+    rw (c.in-None.is, ← c.item_count.ensures.value)
+    (c.any_below.ensures (λ i. is_at a.state a.production a.dot (item_at a.t.now i)) (λ i b h e. search rules))
 
-pub loop-i-preserved : goal.loop-i-preserved
-loop-i-preserved c =
-    (search rules, any_more _ _ _ c.matches.ensures c.if-matches.false c.loop-i.invariant.1)
-
-pub returns : goal.returns
-unfolding has_in
-returns c = sym (any_done _ _ _ c.loop-i.invariant.0 (search rules) c.loop-i.invariant.1)
+pub returns-in-Some : goal.returns-in-Some
+unfolding has_item_with has_item_for
+returns-in-Some c =
+    let a = c.args in
+    rw (c.in-Some.is, ← c.item_count-in-Some.ensures.value)
+    (c.any_below-in-Some.ensures (λ i. is_at a.state a.production a.dot (item_at a.t.now i) && eqb (item_at a.t.now i).lookahead c.in-Some.a) (λ i b h e. search rules))

@@ -1,18 +1,12 @@
--- `items::repeats` compares item i with the one before it, by `matches`; item 0 has none before it.
+-- `items::repeats` compares item i with the one before it; item 0 has none before it.
 -- Assumes nothing.
-use mathlib.Core.Path.{sym}
 use Rattle.items.specs.Lookup.{first_new, later_repeats}
 use Rattle.items.proofs.repeats.Goals as goal
 
-pub returns-then-i-eq0 : goal.returns-then-i-eq0
-returns-then-i-eq0 c = sym (first_new _ _ c.if-i-eq0.true)
+pub returns-in_default : goal.returns-in_default
+returns-in_default c = first_new _ _ c.in_default.ensures
 
 pub returns : goal.returns
 returns c =
-    rw (
-      later_repeats _ _ c.if-i-eq0.false,
-      ← c.item_state-state.ensures,
-      ← c.item_production-production.ensures,
-      ← c.item_dot.ensures,
-    )
-    c.matches.ensures
+    let s = c.in-Some.ensures in
+    later_repeats _ _ _ _ _ _ s.0 s.1 c.item-before.ensures c.item.ensures c.is_at.ensures

@@ -1,16 +1,14 @@
--- `reducing::reduce_fits` looks only a reduce cell's production up, with the dot at its length, as `reduce_fits_in` does.
+-- `reducing::reduce_fits` looks only a reduce cell's production up, with the dot at its length.
 -- Assumes nothing.
-use Rattle.items.specs.Reducing.{reduce_fits_in}
+use mathlib.Core.Logic.{⊎_elim}
+use Rattle.rules.specs.Check.{reduce_fits}
+use Rattle.items.specs.Lookup.{has_item_with}
 use Rattle.items.proofs.reducing.reduce_fits.Goals as goal
 
-pub returns-in-Shift : goal.returns-in-Shift
-unfolding reduce_fits_in
-returns-in-Shift c = rw c.in-Shift.is
-
 pub returns-in-Reduce : goal.returns-in-Reduce
-unfolding reduce_fits_in
-returns-in-Reduce c = rw (c.in-Reduce.is, ← c.size.ensures) c.has_item.ensures
+unfolding reduce_fits has_item_with
+returns-in-Reduce c = rw (c.in-Reduce.is, ← c.size.ensures.value) c.has_item.ensures
 
-pub returns-in-Error : goal.returns-in-Error
-unfolding reduce_fits_in
-returns-in-Error c = rw c.in-Error.is
+pub returns-in-Shift : goal.returns-in-Shift
+unfolding reduce_fits
+returns-in-Shift c = ⊎_elim (λ e. rw e.1) (λ e. rw e) c.in-Shift.is
