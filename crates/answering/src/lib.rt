@@ -9,7 +9,7 @@ ghost use Rattle.printer.specs.Writing.{Wrote};
 use chamrolak::{Returned, chamrolak_parse};
 use printer::{Answer, Page, Trees};
 use reader::{FileError, Payloads};
-use words::{get32, put32};
+use words::Word;
 
 // The rooms of a call, and one for the tokens of the longest file. "Limits: 1,000,000 units, depth 512, 4,096 child entries, 1,024
 // nodes, 64 records": so long are they.
@@ -44,19 +44,19 @@ fn tell(returned: Returned, productions: &[u8], rooms: &Rooms, out: &mut [u8]) -
         report,
         ..
     } = rooms;
-    let answer = get32(report, 0);
+    let answer = u32::get(report, 0);
     if answer == 0 {
         return refuse(out, number as usize, value as usize);
     }
     // So many entries of a room, in bytes, and never more than the room has.
-    let n = (get32(report, 20) as usize * 32).min(nodes.len());
-    let k = (get32(report, 24) as usize * 4).min(children.len());
+    let n = (u32::get(report, 20) as usize * 32).min(nodes.len());
+    let k = (u32::get(report, 24) as usize * 4).min(children.len());
     let mut page = Page::new(out);
     page.answer_lines(&Answer {
         number: answer as usize,
-        place: get32(report, 8) as usize,
-        root: get32(report, 4),
-        units: get32(report, 16) as usize,
+        place: u32::get(report, 8) as usize,
+        root: u32::get(report, 4),
+        units: u32::get(report, 16) as usize,
         expected: &report[32..64],
         trees: Trees {
             productions,
@@ -64,7 +64,7 @@ fn tell(returned: Returned, productions: &[u8], rooms: &Rooms, out: &mut [u8]) -
             children: &children[..k],
         },
         records,
-        count: get32(report, 28),
+        count: u32::get(report, 28),
     });
     page.at
 }
@@ -72,7 +72,7 @@ fn tell(returned: Returned, productions: &[u8], rooms: &Rooms, out: &mut [u8]) -
 // The call on the payloads and the widened tokens, and its lines. "start location 0"
 fn answer(payloads: Payloads<'_>, rooms: &mut Rooms, out: &mut [u8]) -> usize {
     let end = 12 * reader::widen_tokens(payloads.tokens.bytes, &mut rooms.tokens);
-    put32(&mut rooms.report, 0, 0);
+    u32::put(&mut rooms.report, 0, 0);
     let returned = chamrolak_parse(
         payloads.sizes.bytes,
         payloads.actions.bytes,

@@ -22,7 +22,7 @@ use rooms::Rooms;
 use rules::Refusal;
 use shapes::tokens::tokens_fit;
 use tables::Tables;
-use words::word16;
+use words::Word;
 
 // What a call returns: the number of document 01's answer or refusal, and its place or first field. 0 is the number of tables that
 // pass.
@@ -84,10 +84,10 @@ fn given<'a>(
         gotos,
         productions,
         tokens,
-        states: word16(sizes, 0) as usize,
-        kinds: word16(sizes, 2) as usize,
-        nonterminals: word16(sizes, 4) as usize,
-        recovers: word16(sizes, 10) == 1,
+        states: u16::word(sizes, 0) as usize,
+        kinds: u16::word(sizes, 2) as usize,
+        nonterminals: u16::word(sizes, 4) as usize,
+        recovers: u16::word(sizes, 10) == 1,
         count: tokens.len() / 12,
         origin,
         depth,

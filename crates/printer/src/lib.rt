@@ -8,7 +8,7 @@ ghost use Rattle.printer.specs.Lines.{units_text, kind_text, kinds_text, places_
 ghost use Rattle.printer.specs.TreeText.{head_text, comma_text};
 
 use itoa::Buffer;
-use words::{word16, word32};
+use words::Word;
 
 // A text that is being written into a lent buffer, and the place behind it. What the buffer has no room for is left out, and the
 // place stays at its end.
@@ -135,7 +135,7 @@ impl<'a> Page<'a> {
         ensures { Written self.old (kinds_text words.now from) self.new }
     {
         for i in 0..8 {
-            self.word(word32(words, from + 4 * i), 32 * i);
+            self.word(u32::word(words, from + 4 * i), 32 * i);
         }
     }
 
@@ -196,13 +196,13 @@ impl<'a> Page<'a> {
         requires { from < 2 ^ 39 }
         ensures { Written self.old (mark_text i records.now from) self.new }
     {
-        let number = word32(records, from);
-        let place = word32(records, from + 4);
-        let first = word32(records, from + 8);
-        let after = word32(records, from + 12);
-        let dropped = word32(records, from + 16);
-        let start = word32(records, from + 20);
-        let end = word32(records, from + 24);
+        let number = u32::word(records, from);
+        let place = u32::word(records, from + 4);
+        let first = u32::word(records, from + 8);
+        let after = u32::word(records, from + 12);
+        let dropped = u32::word(records, from + 16);
+        let start = u32::word(records, from + 20);
+        let end = u32::word(records, from + 24);
         self.mark_tokens(i, first, after, dropped);
         self.mark_error(start, end, number, place);
         self.mark_expected(records, from);
@@ -229,7 +229,7 @@ impl<'a> Page<'a> {
     fn head(&mut self, productions: &[u8], production: u32)
         ensures { Written self.old (head_text productions.now production) self.new }
     {
-        let left = word16(productions, 4 * production as usize);
+        let left = u16::word(productions, 4 * production as usize);
         self.byte(b'[');
         self.number(left as usize);
         self.text(b": ");
@@ -255,13 +255,13 @@ impl<'a> Page<'a> {
             return;
         }
         let node = 32 * i as usize;
-        let number = word32(trees.nodes, node + 4);
-        match word32(trees.nodes, node) {
+        let number = u32::word(trees.nodes, node + 4);
+        match u32::word(trees.nodes, node) {
             0 => self.leaf(b't', number),
             1 => self.leaf(b'!', number),
             _ => {
-                let child = word32(trees.nodes, node + 8);
-                let count = word32(trees.nodes, node + 12);
+                let child = u32::word(trees.nodes, node + 8);
+                let count = u32::word(trees.nodes, node + 12);
                 self.head(trees.productions, number);
                 self.children(trees, child, count, fuel - 1);
                 self.byte(b']');
@@ -277,7 +277,7 @@ impl<'a> Page<'a> {
         let from = 4 * child as usize;
         for j in 0..count as usize {
             self.comma(j);
-            self.tree(trees, word32(trees.children, from + 4 * j), fuel);
+            self.tree(trees, u32::word(trees.children, from + 4 * j), fuel);
         }
     }
 

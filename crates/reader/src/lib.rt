@@ -7,7 +7,7 @@ ghost use Rattle.rules.specs.File.{is_cut, file_of};
 ghost use Rattle.reader.specs.Reading.{number_of, class_of, fitted_of, ended_of, seen_of, seen_at, placed, filed_of, AreCutOf};
 ghost use Rattle.reader.specs.Tokens.{widen_token, Widened};
 
-use words::{get16, get32, put32};
+use words::Word;
 
 // A payload: where its first byte stands in the file, and its bytes, which are a part of the file's.
 #[derive(Clone, Copy, Debug)]
@@ -113,7 +113,7 @@ fn cut(s: &[u8], at: usize) -> bool
     requires { at ≤ length s.now }
     ensures { result ≡ is_cut s.now at }
 {
-    s.len() - at < 6 || s.len() - at - 6 < get32(s, at) as usize
+    s.len() - at < 6 || s.len() - at - 6 < u32::get(s, at) as usize
 }
 
 // Where the file ends: "missing" is a file that ends before kind 8.
@@ -153,7 +153,7 @@ fn seen_at(s: &[u8], at: usize, want: usize) -> Result<Option<Record>, Refusal>
     if cut(s, at) {
         return Err(Refusal::Cut);
     }
-    Ok(Some(judged(get16(s, at + 4), get32(s, at) as usize, want)?))
+    Ok(Some(judged(u16::get(s, at + 4), u32::get(s, at) as usize, want)?))
 }
 
 // The same, and a refusal with its place: "place the record's first byte (.. file length for a missing kind)".
@@ -225,12 +225,12 @@ fn widen_token(payload: &[u8], from: usize, out: &mut [u8], at: usize)
     requires { (from + 10 ≤ length payload.now) × (at + 12 ≤ length out.old) }
     ensures { out.new ≡ widen_token payload.now from out.old at }
 {
-    let kind = get16(payload, from);
-    let start = get32(payload, from + 2);
-    let end = get32(payload, from + 6);
-    put32(out, at, kind as u32);
-    put32(out, at + 4, start);
-    put32(out, at + 8, end);
+    let kind = u16::get(payload, from);
+    let start = u32::get(payload, from + 2);
+    let end = u32::get(payload, from + 6);
+    u32::put(out, at, kind as u32);
+    u32::put(out, at + 4, start);
+    u32::put(out, at + 8, end);
 }
 
 // The tokens of a payload as a call takes them, as many as the room holds; the rest of the room is unchanged. "Numbers take 2 bytes,

@@ -18,7 +18,7 @@ use records::{Actions, put_record};
 use rooms::{Rooms, put_entry, put_node, symbol_at, token_at, top_at};
 use rules::{Answer, Cell, Entry, StateNo, What};
 use tables::cell_in;
-use words::put32;
+use words::Word;
 
 #[tactic(auto, unfolding(model::specs::Model::push_state))]
 fn push_state(scratch: &mut [u8], st: St, base: usize, pushed: usize, s: u32) -> St
@@ -26,7 +26,7 @@ fn push_state(scratch: &mut [u8], st: St, base: usize, pushed: usize, s: u32) ->
     ensures { (stack nodes children records : List ℕ) → world stack scratch.new nodes children records result ≡
         push_state (world stack scratch.old nodes children records st) base pushed s }
 {
-    put32(scratch, 4 * pushed, s);
+    u32::put(scratch, 4 * pushed, s);
     simulating(st, base, pushed + 1)
 }
 

@@ -10,7 +10,7 @@ ghost use Rattle.rooms.specs.Put.{put_words};
 ghost use Rattle.model.specs.Bytes.{put_entry, put_node, state_at, node_at, start_at, end_at, first_at, after_at, top_at, copy_nodes, scratch_at, sim_top};
 
 use rules::{Entry, Token, What};
-use words::{get32, put32, word32};
+use words::Word;
 
 // The rooms that a caller lends for a run.
 #[derive(Drop)]
@@ -28,7 +28,7 @@ pub fn put_words<const N: usize>(s: &mut [u8], at: usize, words: [u32; N])
     ensures { s.new ≡ put_words s.old at words.entry }
 {
     for (i, word) in words.iter().enumerate() {
-        put32(s, at + 4 * i, *word);
+        u32::put(s, at + 4 * i, *word);
     }
 }
 
@@ -115,12 +115,12 @@ pub fn symbol_at(s: &[u8], i: usize) -> Symbol
         (result.first ≡ first_at s.now i) × (result.after ≡ after_at s.now i) }
 {
     Symbol {
-        state: get32(s, 32 * i),
-        node: get32(s, 32 * i + 4),
-        start: get32(s, 32 * i + 16),
-        end: get32(s, 32 * i + 20),
-        first: get32(s, 32 * i + 24),
-        after: get32(s, 32 * i + 28),
+        state: u32::get(s, 32 * i),
+        node: u32::get(s, 32 * i + 4),
+        start: u32::get(s, 32 * i + 16),
+        end: u32::get(s, 32 * i + 20),
+        first: u32::get(s, 32 * i + 24),
+        after: u32::get(s, 32 * i + 28),
     }
 }
 
@@ -142,7 +142,7 @@ pub fn copy_nodes(children: &mut [u8], at: usize, stack: &[u8], from: usize, n: 
     ensures { children.new ≡ copy_nodes n children.old at stack.now from }
 {
     for i in 0..n {
-        put32(children, 4 * (at + i), symbol_at(stack, from + i).node);
+        u32::put(children, 4 * (at + i), symbol_at(stack, from + i).node);
     }
 }
 
@@ -152,7 +152,7 @@ pub fn scratch_at(s: &[u8], i: usize) -> u32
     requires { 4 * i + 4 ≤ length s.now }
     ensures { result ≡ scratch_at s.now i }
 {
-    get32(s, 4 * i)
+    u32::get(s, 4 * i)
 }
 
 #[tactic(auto, unfolding(model::specs::Bytes::sim_top))]
@@ -173,8 +173,8 @@ pub fn token_at(tokens: &[u8], i: usize) -> Token
         (result.end ≡ word32 tokens.now (12 * i + 8)) }
 {
     Token {
-        kind: word32(tokens, 12 * i),
-        start: word32(tokens, 12 * i + 4),
-        end: word32(tokens, 12 * i + 8),
+        kind: u32::word(tokens, 12 * i),
+        start: u32::word(tokens, 12 * i + 4),
+        end: u32::word(tokens, 12 * i + 8),
     }
 }

@@ -4,7 +4,7 @@ ghost use Rattle.std.specs.Prelude.{◌≡◌};
 ghost use Rattle.rules.specs.Check.{ok18};
 
 use tables::scans::all_below;
-use words::word32;
+use words::Word;
 
 #[tactic(auto, unfolding(rules::specs::Check::ok18))]
 pub fn tokens_fit(tokens: &[u8]) -> bool
@@ -13,5 +13,5 @@ pub fn tokens_fit(tokens: &[u8]) -> bool
     let n = tokens.len() / 12;
     tokens.len() % 12 == 0
         && n <= 4096
-        && all_below(n as u32, |i| word32(tokens, 12 * i as usize) <= 65535)
+        && all_below(n as u32, |i| u32::word(tokens, 12 * i as usize) <= 65535)
 }

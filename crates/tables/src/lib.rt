@@ -9,7 +9,7 @@ ghost use Rattle.tables.specs.Readers.{cell_in};
 
 use rules::Cell;
 use std::marker::Model;
-use words::word16;
+use words::Word;
 
 pub mod scans;
 
@@ -18,7 +18,7 @@ pub fn cell_at(table: &[u8], place: usize) -> Cell
     requires { place < 2 ^ 40 }
     ensures { result ≡ cell_at table.now place }
 {
-    cells::decode(word16(table, 2 * place))
+    cells::decode(u16::word(table, 2 * place))
 }
 
 // The cell at a row and a column of a table of cells; outside the table an error cell.
@@ -40,7 +40,7 @@ pub fn left(productions: &[u8], production: usize) -> usize
     requires { production < 2 ^ 40 }
     ensures { result ≡ word16 productions.now (4 * production) }
 {
-    word16(productions, 4 * production) as usize
+    u16::word(productions, 4 * production) as usize
 }
 
 // and the length of its right side
@@ -48,7 +48,7 @@ pub fn size(productions: &[u8], production: usize) -> usize
     requires { production < 2 ^ 40 }
     ensures { result ≡ word16 productions.now (4 * production + 2) }
 {
-    word16(productions, 4 * production + 2) as usize
+    u16::word(productions, 4 * production + 2) as usize
 }
 
 // A byte; past the end 0.
@@ -142,11 +142,11 @@ impl<'a> Tables<'a> {
             rights,
             items,
             sets,
-            states: word16(sizes, 0),
-            kinds: word16(sizes, 2),
-            nonterminals: word16(sizes, 4),
-            production_count: word16(sizes, 6),
-            item_count: word16(sizes, 8),
+            states: u16::word(sizes, 0),
+            kinds: u16::word(sizes, 2),
+            nonterminals: u16::word(sizes, 4),
+            production_count: u16::word(sizes, 6),
+            item_count: u16::word(sizes, 8),
         }
     }
 
@@ -190,7 +190,7 @@ impl<'a> Tables<'a> {
     pub fn flag(&self) -> u16
         ensures { result ≡ flag self.now }
     {
-        word16(self.sizes, 10)
+        u16::word(self.sizes, 10)
     }
 
     pub fn lengths(&self) -> Lengths
@@ -263,7 +263,7 @@ impl<'a> Tables<'a> {
         ensures value { result ≡ left self.now production }
         ensures bound { result < 2 ^ 16 }
     {
-        word16(self.productions, 4 * production as usize) as u32
+        u16::word(self.productions, 4 * production as usize) as u32
     }
 
     #[tactic(auto, unfolding(rules::specs::Tables::size))]
@@ -271,7 +271,7 @@ impl<'a> Tables<'a> {
         ensures value { result ≡ size self.now production }
         ensures bound { result < 2 ^ 16 }
     {
-        word16(self.productions, 4 * production as usize + 2) as u32
+        u16::word(self.productions, 4 * production as usize + 2) as u32
     }
 
     // The right sides stand one behind the other: where the right side of a production starts, in symbols.
@@ -293,7 +293,7 @@ impl<'a> Tables<'a> {
         ensures value { result ≡ symbol_in self.now.rights at }
         ensures bound { result < 2 ^ 16 }
     {
-        word16(self.rights, 2 * at) as u32
+        u16::word(self.rights, 2 * at) as u32
     }
 
     pub fn symbol(&self, production: u32, dot: u32) -> u32
@@ -310,10 +310,10 @@ impl<'a> Tables<'a> {
     {
         let at = 8 * i as usize;
         Item {
-            state: word16(self.items, at),
-            production: word16(self.items, at + 2),
-            dot: word16(self.items, at + 4),
-            lookahead: word16(self.items, at + 6),
+            state: u16::word(self.items, at),
+            production: u16::word(self.items, at + 2),
+            dot: u16::word(self.items, at + 4),
+            lookahead: u16::word(self.items, at + 6),
         }
     }
 

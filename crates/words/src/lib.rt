@@ -4,7 +4,6 @@
 
 ghost use Rattle.std.specs.Prelude.{◌≡◌, ℕ, List, ◌+◌, ◌^◌, ◌≤◌, ◌<◌, length};
 ghost use Rattle.words.specs.Laws.{Apart};
-ghost use Rattle.words.specs.Words.{get16, get32, put16, put32, word16, word32};
 
 // What a number of `WIDTH` bytes in a slice is, whatever the width: a read, a write, and a read that asks nothing. A place is a
 // byte's index. The laws are those of specs/Laws.antt: what was put is got, and what was not put is as it was. In a law a number
@@ -137,45 +136,4 @@ impl Word for u32 {
     ghost word_in = { word32_in };
 
     ghost word_out = { word32_out };
-}
-
-// The same by names that say the width, for the callers that use them.
-pub fn get16(s: &[u8], at: usize) -> u16
-    requires { at + 2 ≤ length s.now }
-    ensures { result ≡ get16 s.now at }
-{
-    u16::get(s, at)
-}
-
-pub fn get32(s: &[u8], at: usize) -> u32
-    requires { at + 4 ≤ length s.now }
-    ensures { result ≡ get32 s.now at }
-{
-    u32::get(s, at)
-}
-
-pub fn put16(s: &mut [u8], at: usize, v: u16)
-    requires { at + 2 ≤ length s.old }
-    ensures { s.new ≡ put16 s.old at v }
-{
-    u16::put(s, at, v)
-}
-
-pub fn put32(s: &mut [u8], at: usize, v: u32)
-    requires { at + 4 ≤ length s.old }
-    ensures { s.new ≡ put32 s.old at v }
-{
-    u32::put(s, at, v)
-}
-
-pub fn word16(s: &[u8], at: usize) -> u16
-    ensures { result ≡ word16 s.now at }
-{
-    u16::word(s, at)
-}
-
-pub fn word32(s: &[u8], at: usize) -> u32
-    ensures { result ≡ word32 s.now at }
-{
-    u32::word(s, at)
 }

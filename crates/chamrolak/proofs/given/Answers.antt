@@ -3,4 +3,4 @@
 use Rattle.chamrolak.proofs.given.Goals as goal
 
 pub returns : goal.returns
-returns c = rw (c.word16.ensures, c.word16-2.ensures, c.word16-3.ensures, c.word16-4.ensures)
+returns c = rw (c.word.ensures, c.word-2.ensures, c.word-3.ensures, c.word-4.ensures)

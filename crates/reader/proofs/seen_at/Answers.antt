@@ -5,8 +5,8 @@ use native.Mathlib.Omega.{arith}
 use Rattle.reader.specs.Records.{whole}
 use Rattle.reader.proofs.seen_at.Goals as goal
 
-pub get16-requires : goal.get16-requires
-get16-requires c = omega (arith, whole _ _ (sym c.cut.ensures ∙ c.if-cut.false))
+pub get-requires : goal.get-requires
+get-requires c = omega (arith, whole _ _ (sym c.cut.ensures ∙ c.if-cut.false))
 
-pub get32-requires : goal.get32-requires
-get32-requires c = omega (arith, whole _ _ (sym c.cut.ensures ∙ c.if-cut.false))
+pub get-requires-2 : goal.get-requires-2
+get-requires-2 c = omega (arith, whole _ _ (sym c.cut.ensures ∙ c.if-cut.false))

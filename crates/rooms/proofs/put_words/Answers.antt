@@ -16,7 +16,7 @@ written s at i ws h =
     rw (p, drop-cons ws i 0 h, add-one)
 
 pub loop-i-preserved : goal.loop-i-preserved
-loop-i-preserved g c = (rw (c.put32.ensures) (sym (written _ _ _ _ (search rules)) ∙ c.loop-i.invariant.0), cc)
+loop-i-preserved g c = (rw (c.put.ensures) (sym (written _ _ _ _ (search rules)) ∙ c.loop-i.invariant.0), cc)
 
 pub returns : goal.returns
 unfolding put_words

@@ -5,4 +5,4 @@ use Rattle.tables.proofs.cell_at.Goals as goal
 
 pub returns : goal.returns
 unfolding cell_at
-returns c = rw (← c.word16.ensures) c.decode.ensures
+returns c = rw (← c.word.ensures) c.decode.ensures

@@ -7,4 +7,4 @@ use Rattle.printer.proofs.Page.head.Goals as goal
 
 pub returns : goal.returns
 unfolding head_text text codes_from
-returns c = rw (← c.word16-left.ensures) (behind (behind c.byte.ensures c.number.ensures) c.text.ensures)
+returns c = rw (← c.word-left.ensures) (behind (behind c.byte.ensures c.number.ensures) c.text.ensures)

@@ -6,4 +6,4 @@ use Rattle.printer.proofs.Page.mark_line.Goals as goal
 
 pub returns : goal.returns
 unfolding mark_text
-returns c = rw (← c.word32-number.ensures, ← c.word32-place.ensures, ← c.word32-first.ensures, ← c.word32-after.ensures, ← c.word32-dropped.ensures, ← c.word32-start.ensures, ← c.word32-end.ensures) (behind (behind c.mark_tokens.ensures c.mark_error.ensures) c.mark_expected.ensures)
+returns c = rw (← c.word-number.ensures, ← c.word-place.ensures, ← c.word-first.ensures, ← c.word-after.ensures, ← c.word-dropped.ensures, ← c.word-start.ensures, ← c.word-end.ensures) (behind (behind c.mark_tokens.ensures c.mark_error.ensures) c.mark_expected.ensures)

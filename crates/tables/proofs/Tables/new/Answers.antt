@@ -7,9 +7,9 @@ pub invariant_of-result : goal.invariant_of-result
 unfolding states kinds nonterminals production_count item_count
 invariant_of-result c =
     record {
-      states_read = c.word16.ensures;
-      kinds_read = c.word16-2.ensures;
-      nonterminals_read = c.word16-3.ensures;
-      production_count_read = c.word16-4.ensures;
-      item_count_read = c.word16-5.ensures;
+      states_read = c.word.ensures;
+      kinds_read = c.word-2.ensures;
+      nonterminals_read = c.word-3.ensures;
+      production_count_read = c.word-4.ensures;
+      item_count_read = c.word-5.ensures;
     }
