@@ -25,7 +25,7 @@ use tables::Tables;
 use words::Word;
 
 // What a call returns: the number of document 01's answer or refusal, and its place or first field. 0 is the number of tables that
-// pass.
+// pass. Kept as numbers, and no `Result`: the C interface.
 #[repr(C)]
 #[derive(Clone, Copy)]
 pub struct Returned {
