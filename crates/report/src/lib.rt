@@ -12,7 +12,7 @@ use records::{Actions, ones_of};
 use rooms::put_words;
 use rules::Answer;
 
-// "1 accepted" to "23 records"
+// "1 accepted" to "23 records". A function, since `From<Answer> for u32` would have to stand beside the type, in a crate without functions.
 pub fn number_of(answer: Answer) -> u32
     ensures { result ≡ number_of answer }
 {
@@ -88,7 +88,8 @@ pub fn put_report(
     records: u32,
 )
     requires { length report.old ≡ 64 }
-    ensures { (T : Tables) → Row T actions.entry.bytes.now actions.entry.states actions.entry.kinds → report.new ≡ bytes_of (answer_words T answer units nodes children records) }
+    ensures { (T : Tables) → Row T actions.entry.bytes.now actions.entry.states actions.entry.kinds → report.new ≡
+        bytes_of (answer_words T answer units nodes children records) }
 {
     let words = expected_of(actions, answer);
     put_words(
