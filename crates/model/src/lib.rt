@@ -18,6 +18,7 @@ pub enum Mode {
 // `children` and `records` count what is written. `formed`, `popped`, `base` and `pushed` mean something in recovery only: the
 // error, how many symbols lie above the state searched, and the simulated stack, which is `base` entries of the real one and
 // then `pushed` states of the scratch room. `answer` is how the run ends; until it has ended, how it would if the units ran out.
+// These stand beside `mode` and not in its variants: the definitions `searching`, `dropped` and `simulating` keep what they don't set.
 #[derive(Clone, Copy)]
 pub struct St {
     pub height: usize,

@@ -1,4 +1,5 @@
 // The lent rooms, written and read: each function is the definition of the same name of the byte model, on the bytes of one room.
+// Three are for words in a row: `put_words`, and `symbol_at` and `token_at`, whose contracts name the definition of each word.
 // A room is written by whole entries, and read at whole entries, so that its place inside the room is the only thing asked.
 #![tactic(auto)]
 
@@ -46,9 +47,7 @@ pub fn which_of(w: What) -> u32
     ensures { result ≡ which_of w }
 {
     match w {
-        What::Read(i) => i,
-        What::Mark(i) => i,
-        What::Production(p) => p,
+        What::Read(i) | What::Mark(i) | What::Production(i) => i,
     }
 }
 
@@ -105,6 +104,7 @@ pub struct Symbol {
     pub after: u32,
 }
 
+// The words of a stack entry.
 #[tactic(auto, unfolding(model::specs::Bytes::state_at, model::specs::Bytes::node_at, model::specs::Bytes::start_at, model::specs::Bytes::end_at, model::specs::Bytes::first_at, model::specs::Bytes::after_at))]
 pub fn symbol_at(s: &[u8], i: usize) -> Symbol
     requires { 32 * i + 32 ≤ length s.now }
