@@ -2,7 +2,7 @@
 // A run is the byte model's, for every call that the numbers and slices serve: `drive`, whose parts are `begin`, `run` and `step`.
 #![tactic(auto)]
 
-ghost use Rattle.std.specs.Prelude.{List, ◌≡◌, ℕ, ◌+◌, ◌*◌, ◌-◌, ◌/◌, ◌≤◌, ◌<◌, ◌^◌, min, length};
+ghost use Rattle.std.specs.Prelude.{List, ◌≡◌, ℕ, ◌+◌, ◌*◌, ◌/◌, ◌≤◌, ◌<◌, ◌^◌, min, length};
 ghost use Rattle.model.specs.Model.{Call, has_token, formed_at, fail, first_st, begin, step, is_ended, run_from};
 ghost use Rattle.rooms.specs.Lent.{Same, world_of};
 ghost use Rattle.moves.specs.Serving.{Reads, Serves, world};

@@ -2,7 +2,7 @@
 // Each says of the byte model that the mode's look is the act that was decided.
 #![tactic(auto)]
 
-ghost use Rattle.std.specs.Prelude.{List, ◌≡◌, ℕ, ◌+◌, ◌*◌, ◌-◌, ◌≤◌, ◌<◌, ◌^◌, eqb, length};
+ghost use Rattle.std.specs.Prelude.{List, ◌≡◌, ℕ, ◌*◌, ◌-◌, ◌≤◌, ◌<◌, ◌^◌, eqb, length};
 ghost use Rattle.words.specs.Words.{pick};
 ghost use Rattle.rules.specs.declared.Cell.TheVariants.{Shift};
 ghost use Rattle.rules.specs.Tables.{action};
