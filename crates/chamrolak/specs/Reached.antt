@@ -185,7 +185,14 @@ module _ (sizes : List ℕ) (actions gotos productions tokens : Bor (List ℕ)) 
   unfolding states kinds nonterminals flag
   serves rights items sets d =
       record {
-        reads = record { tokens_are = refl; count_is = refl; origin_is = refl; depth_is = sym d; kinds_are = refl; flag_is = refl };
+        reads = record {
+          tokens_are = refl;
+          count_is = refl;
+          origin_is = refl;
+          depth_is = sym d;
+          kinds_are = refl;
+          flag_is = refl;
+        };
         goes = record { gotos_are = refl; productions_are = refl; states_are = refl; nonterminals_are = refl };
         acts = record { actions_are = refl; states_are = refl; kinds_are = refl };
       }

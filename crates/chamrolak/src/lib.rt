@@ -2,7 +2,7 @@
 // for all input. The crate chamrolak_c exports them, and include/chamrolak.h has them for C.
 #![tactic(auto)]
 
-ghost use Rattle.std.specs.Prelude.{Err, List, [], ◌≡◌, ℕ, ◌<◌, ◌^◌, length};
+ghost use Rattle.std.specs.Prelude.{Err, List, ◌≡◌, ℕ, length};
 ghost use Rattle.rules.specs.Tables.{Tables as Lists};
 ghost use Rattle.rules.specs.Check.{check};
 ghost use Rattle.rules.specs.Answers.{drive_reply, parse_reply};
@@ -98,7 +98,8 @@ fn given<'a>(
 fn run_all(g: &Given, rooms: &mut Rooms, budget: u32) -> St
     requires { Fitting g.now (rooms_in rooms.old) }
     ensures same { Same rooms.old rooms.new }
-    ensures by_index { (T : Lists) → Serves (call_in T g.now (rooms_in rooms.old)) g.now → world_of rooms.new result ≡ ran_of T g.now.tokens.now g.now.origin (rooms_in rooms.old) budget }
+    ensures by_index { (T : Lists) → Serves (call_in T g.now (rooms_in rooms.old)) g.now → world_of rooms.new result ≡
+        ran_of T g.now.tokens.now g.now.origin (rooms_in rooms.old) budget }
     ensures counted { Counted result }
 {
     drive(g, rooms, budget)
@@ -108,7 +109,9 @@ fn run_all(g: &Given, rooms: &mut Rooms, budget: u32) -> St
 fn answer_all(g: &Given, rooms: &mut Rooms, report: &mut [u8], budget: u32) -> Returned
     requires { Fitting g.now (rooms_in rooms.old) × (length report.old ≡ 64) }
     ensures same { Same rooms.old rooms.new }
-    ensures answer { (T : Lists) → Serves (call_in T g.now (rooms_in rooms.old)) g.now → Leaves T (drive_reply T g.now.tokens.now g.now.origin (limits_in (lent_in rooms.old report.old) budget)) result (lent_in rooms.old report.old) (lent_in rooms.new report.new) }
+    ensures answer { (T : Lists) → Serves (call_in T g.now (rooms_in rooms.old)) g.now →
+        Leaves T (drive_reply T g.now.tokens.now g.now.origin (limits_in (lent_in rooms.old report.old) budget)) result
+        (lent_in rooms.old report.old) (lent_in rooms.new report.new) }
 {
     let st = run_all(g, rooms, budget);
     let actions = Actions {

@@ -133,7 +133,8 @@ same_again a b c p q =
       records_long = q.records_long ∙ p.records_long;
     }
 
-module _ (g : Given) (rooms₀ : Rooms) (s₀ : St) (budget : ℕ) (rooms : Rooms) (s : St) (left : ℕ) (rooms' : Rooms) (r : St) (left' : ℕ) where
+module _ (g : Given) (rooms₀ : Rooms) (s₀ : St) (budget : ℕ) (rooms : Rooms) (s : St) (left : ℕ)
+    (rooms' : Rooms) (r : St) (left' : ℕ) where
   pub going_on : Going g rooms₀ s₀ budget rooms s left → left ≡ left' + 1 → is_ended s.mode ≡ false → Same rooms rooms' →
       ((C : Call) → Serves C g → world_of rooms' r ≡ step C (world_of rooms s)) → Going g rooms₀ s₀ budget rooms' r left'
   going_on k h e l q =

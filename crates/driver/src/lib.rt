@@ -2,7 +2,7 @@
 // A run is the byte model's, for every call that the numbers and slices serve: `drive`, whose parts are `begin`, `run` and `step`.
 #![tactic(auto)]
 
-ghost use Rattle.std.specs.Prelude.{List, ◌≡◌, ℕ, ◌+◌, ◌*◌, ◌-◌, ◌/◌, ◌≤◌, ◌<◌, ◌^◌, min, length};
+ghost use Rattle.std.specs.Prelude.{List, ◌≡◌, ℕ, ◌+◌, ◌*◌, ◌/◌, ◌≤◌, ◌<◌, ◌^◌, min, length};
 ghost use Rattle.model.specs.Model.{Call, has_token, formed_at, fail, first_st, begin, step, is_ended, run_from};
 ghost use Rattle.rooms.specs.Lent.{Same, world_of};
 ghost use Rattle.moves.specs.Serving.{Reads, Serves, world};
@@ -63,7 +63,7 @@ pub fn begin(g: &Given) -> St
 }
 
 // "3 unrecognized token: token, expected. 4 unrecognized end: last location, expected."
-#[tactic(auto, using(moves::specs::Serving::has_token_law, moves::specs::Serving::no_token_law), unfolding(model::specs::Model::formed_at))]
+#[tactic(auto, unfolding(model::specs::Model::formed_at))]
 fn formed_at(g: &Given, stack: &[u8], st: St) -> Formed
     requires { (st.next < 2 ^ 32) × (32 * st.height ≤ length stack.now) }
     ensures { (C : Call) (scratch nodes children records : List ℕ) → Reads C g.now → result ≡
@@ -93,7 +93,8 @@ fn fail_now(g: &Given, stack: &[u8], st: St) -> St
     fail(g, st, formed_at(g, stack, st))
 }
 
-// What a look decided is done. Each act has one place, so that the whole step is one function of the machine's code.
+// What a look decided is done. An enum with one `match`, and no closure handed on: each act has one place, so that the whole step is
+// one function of the machine's code, on which the ratio of speed rests (docs/DECISIONS.md, "Each act of the driver has one call site").
 #[tactic(auto, unfolding(looks::specs::Deciding::on_act))]
 fn perform(g: &Given, rooms: &mut Rooms, st: St, act: Act) -> St
     requires { Safe g.now rooms.old.stack.now st × (4 * g.now.depth ≤ length rooms.old.scratch.now) ×

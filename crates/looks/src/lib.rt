@@ -2,7 +2,7 @@
 // Each says of the byte model that the mode's look is the act that was decided.
 #![tactic(auto)]
 
-ghost use Rattle.std.specs.Prelude.{List, ◌≡◌, ℕ, ◌+◌, ◌*◌, ◌-◌, ◌≤◌, ◌<◌, ◌^◌, eqb, length};
+ghost use Rattle.std.specs.Prelude.{List, ◌≡◌, ℕ, ◌*◌, ◌-◌, ◌≤◌, ◌<◌, ◌^◌, eqb, length};
 ghost use Rattle.words.specs.Words.{pick};
 ghost use Rattle.rules.specs.declared.Cell.TheVariants.{Shift};
 ghost use Rattle.rules.specs.Tables.{action};
@@ -22,7 +22,8 @@ use rooms::{sim_top, symbol_at, top_at};
 use rules::{Answer, Cell, ProdNo, StateNo};
 use tables::{cell_in, size};
 
-// What a look decides. `SimulateFrom` has the entries of the real stack, the states pushed above them, and the next state.
+// What a look decides. `SimulateFrom` has the entries of the real stack, the states pushed above them, and the next state. It is an enum
+// and no closure that is called: looks of two modes decide the same act, and each act may have one call site only (driver::perform).
 #[derive(Clone, Copy)]
 pub enum Act {
     ShiftTo(StateNo),
@@ -37,7 +38,7 @@ pub enum Act {
 }
 
 // The lookahead's column: "t+1 is end of input".
-#[tactic(auto, using(moves::specs::Serving::has_token_law, moves::specs::Serving::no_token_law), unfolding(model::specs::Model::look_column))]
+#[tactic(auto, unfolding(model::specs::Model::look_column))]
 fn look_column(g: &Given, st: St) -> usize
     requires { Small g.now × (st.next < 2 ^ 32) }
     ensures { (C : Call) → Reads C g.now → result ≡ look_column C st }
@@ -90,7 +91,7 @@ fn main_shift(g: &Given, st: St, to: StateNo) -> Act
 }
 
 // "Production 0 under a lookahead token in the main loop is answer 5."
-#[tactic(auto, using(moves::specs::Serving::has_token_law, moves::specs::Serving::no_token_law), unfolding(model::specs::Model::main_reduce, model::specs::Model::root_at, crate::specs::Deciding::on_act))]
+#[tactic(auto, unfolding(model::specs::Model::main_reduce, model::specs::Model::root_at, crate::specs::Deciding::on_act))]
 fn main_accept(g: &Given, stack: &[u8], st: St) -> Act
     requires { (st.next < 2 ^ 32) × (32 * st.height ≤ length stack.now) }
     ensures sure { Sure g.now st result }

@@ -2,11 +2,11 @@
 // Each function is the definition of the same name of the byte model.
 #![tactic(auto)]
 
-ghost use Rattle.std.specs.Prelude.{List, ◌≡◌, ℕ, ◌+◌, ◌*◌, ◌-◌, ◌≤◌, ◌<◌, ◌^◌, eqb, length};
+ghost use Rattle.std.specs.Prelude.{List, ◌≡◌, ℕ, ◌+◌, ◌*◌, ◌≤◌, ◌<◌, ◌^◌, eqb, length};
 ghost use Rattle.words.specs.Words.{pick};
 ghost use Rattle.rules.specs.Tables.{target, action, error_column};
 ghost use Rattle.model.specs.Bytes.{top_at, first_at};
-ghost use Rattle.model.specs.Model.{Call, push_state, simulate_on, mark_start, mark_end, mark_entry, marked, recover, has_token, token_start};
+ghost use Rattle.model.specs.Model.{Call, push_state, simulate_on, mark_start, mark_end, mark_entry, marked, recover};
 ghost use Rattle.rooms.specs.Lent.{Same, world_of};
 ghost use Rattle.moves.specs.Serving.{Reads, Acts, world};
 ghost use Rattle.moves.specs.Bounds.{Small, Fine, Safe};
@@ -44,46 +44,26 @@ pub fn simulate_on(g: &Given, scratch: &mut [u8], st: St, base: usize, pushed: u
     push_state(scratch, st, base, pushed, s)
 }
 
-// "else the first dropped token's; else the end of the symbol below; else the start location"
+// "Mark start: the first popped symbol's start; else the first dropped token's; else the end of the symbol below; else the start
+// location."
 #[tactic(auto, unfolding(model::specs::Model::mark_start, model::specs::Model::has_dropped))]
-fn start_unpopped(g: &Given, stack: &[u8], st: St, rest: usize) -> u32
-    requires { (st.popped ≡ 0) × (32 * rest ≤ length stack.now) }
-    ensures { (C : Call) (scratch nodes children records : List ℕ) → Reads C g.now → result ≡
-        mark_start C (world stack.now scratch nodes children records st) rest }
-{
-    let from = st.formed.from as usize;
-    if from < st.next {
-        return token_at(g.tokens, from).start;
-    }
-    end_below(g.origin, stack, rest)
-}
-
-// "Mark start: the first popped symbol's start"
-#[tactic(auto, unfolding(model::specs::Model::mark_start))]
 fn mark_start(g: &Given, stack: &[u8], st: St, rest: usize) -> u32
     requires { Fine (length stack.now) g.now.depth g.now.count st × (rest + st.popped ≡ st.height) }
     ensures { (C : Call) (scratch nodes children records : List ℕ) → Reads C g.now → result ≡
         mark_start C (world stack.now scratch nodes children records st) rest }
 {
-    if st.popped == 0 {
-        return start_unpopped(g, stack, st, rest);
-    }
-    symbol_at(stack, rest).start
-}
-
-// "else the lookahead's start; else the mark's start"
-fn end_unpopped(g: &Given, st: St, start: u32) -> u32
-    requires { st.next < 2 ^ 32 }
-    ensures { (C : Call) → Reads C g.now → result ≡ pick (has_token C st)
-        (token_start C st.next) start }
-{
-    match lookahead(g, st) {
-        Some(token) => token.start,
-        None => start,
+    let from = st.formed.from as usize;
+    if st.popped != 0 {
+        symbol_at(stack, rest).start
+    } else if from < st.next {
+        token_at(g.tokens, from).start
+    } else {
+        end_below(g.origin, stack, rest)
     }
 }
 
-// "Mark end: the last dropped token's end; else, if anything popped, the last symbol's end"
+// "Mark end: the last dropped token's end; else, if anything popped, the last symbol's end; else the lookahead's start; else the mark's
+// start."
 #[tactic(auto, unfolding(model::specs::Model::mark_end, model::specs::Model::has_dropped))]
 fn mark_end(g: &Given, stack: &[u8], st: St, start: u32) -> u32
     requires { Safe g.now stack.now st × (st.popped ≤ st.height) }
@@ -94,10 +74,13 @@ fn mark_end(g: &Given, stack: &[u8], st: St, start: u32) -> u32
     if (st.formed.from as usize) < st.next {
         return token_at(g.tokens, st.next - 1).end;
     }
-    if st.popped == 0 {
-        return end_unpopped(g, st, start);
+    if st.popped != 0 {
+        return symbol_at(stack, st.height - 1).end;
     }
-    symbol_at(stack, st.height - 1).end
+    match lookahead(g, st) {
+        Some(token) => token.start,
+        None => start,
+    }
 }
 
 // "Its stretch is the tokens under popped symbols, popped marks' stretches included, then the dropped ones."

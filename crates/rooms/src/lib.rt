@@ -47,9 +47,7 @@ pub fn which_of(w: What) -> u32
     ensures { result ≡ which_of w }
 {
     match w {
-        What::Read(i) => i,
-        What::Mark(i) => i,
-        What::Production(p) => p,
+        What::Read(i) | What::Mark(i) | What::Production(i) => i,
     }
 }
 
