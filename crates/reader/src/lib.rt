@@ -108,7 +108,7 @@ fn fitted(kind: usize, entry: usize, size: usize, want: usize) -> Result<Record,
 }
 
 // "30 cut record"
-#[tactic(auto, using(crate::specs::Reading::cut_head, crate::specs::Reading::cut_payload))]
+#[tactic(auto, using(crate::specs::Reading::cut_head))]
 fn cut(s: &[u8], at: usize) -> bool
     requires { at ≤ length s.now }
     ensures { result ≡ is_cut s.now at }
