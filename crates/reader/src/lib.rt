@@ -9,7 +9,8 @@ ghost use Rattle.reader.specs.Tokens.{widen_token, Widened};
 
 use words::{get16, get32, put32};
 
-// A payload: where its first byte stands in the file, and its bytes, which are a part of the file's.
+// A payload: where its first byte stands in the file, and its bytes, which are a part of the file's. The rules tell a payload by its
+// first byte and its length.
 #[derive(Clone, Copy, Debug)]
 pub struct Payload<'a> {
     pub start: usize,
