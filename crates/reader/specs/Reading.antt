@@ -85,7 +85,7 @@ placed_ok (Ok r) at r' e = cc
 placed_ok (Err k) at r' e = cc
 
 pub placed_err : (x : Result (Option Record) Refusal) (at : ℕ) (y : FileError) → placed at x ≡ Err y → (x ≡ Err y.refusal) × (y.place ≡ at)
-placed_err (Ok r) at y e = absurd (let z : ◌≡◌ {A = ℕ} 0 1 = cc in omega arith)
+placed_err (Ok r) at y e = cc
 placed_err (Err k) at y e = (cc, cc)
 
 -- the bytes of a part that lies inside the file

@@ -1,14 +1,13 @@
 -- What the reader sees at a place is what the rules find there; and `records_from` of the rules from a place on, a turn at a time,
 -- with as much fuel as there are bytes left.
-use Rattle.std.specs.Prelude.{Bool, true, false, ◌&&◌, ◌||◌, List, [], ◌∷◌, ◌++◌, ◌≡◌, refl, ℕ, zero, suc, ◌+◌, ◌-◌, ◌≤◌, ◌<◌, leb, ltb, eqb, length, map, get_or, set, take, Option, None, Some, Result, Ok, Err}
+use Rattle.std.specs.Prelude.{Bool, true, false, ◌&&◌, List, [], ◌∷◌, ◌++◌, ◌≡◌, refl, ℕ, zero, suc, ◌+◌, ◌-◌, ◌≤◌, ◌<◌, leb, ltb, eqb, length, map, get_or, set, take, Option, None, Some, Result, Ok, Err}
 use Rattle.std.proofs.Math.Path.{sym, ap}
-use Rattle.std.proofs.Common.{subst, ◌∙◌, arith, ltb-true, ltb-false, eqb-true, le-leb}
-use Rattle.std.proofs.lemmas.Bool.{lt-leb}
+use Rattle.std.proofs.Common.{subst, ◌∙◌, arith, take_all, ltb-true, ltb-false, eqb-true, le-leb}
+use Rattle.std.proofs.lemmas.Bool.{lt-leb, and_parts, or_parts}
+use Rattle.std.proofs.lemmas.List.{map_push, take_more_set}
 use Rattle.words.specs.Words.{pick, get16, get32}
 use Rattle.words.specs.Laws.{pick_case}
 use Rattle.rules.specs.File.{length_fits, is_cut, found_at, records_from, file_of, Part, Filed, Found}
-use Rattle.std.proofs.Common.{take_all}
-use Rattle.std.proofs.lemmas.List.{take_more_set}
 use Rattle.reader.specs.declared.Payload.{Payload}
 use Rattle.reader.specs.declared.Payloads.{Payloads}
 use Rattle.reader.specs.declared.Refusal.{Refusal}
@@ -46,17 +45,9 @@ Sure (Ok None) s at want = want ≡ 9
 Sure (Ok (Some (Record.Skipped size))) s at want = (size ≡ get32 s at) × (at + 6 + size ≤ length s)
 Sure (Ok (Some (Record.Wanted size))) s at want = (size ≡ get32 s at) × (at + 6 + size ≤ length s) × (want < 9)
 
-or_right : (a b : Bool) → (a || b) ≡ false → b ≡ false
-or_right true b e = absurd (let z : ◌≡◌ {A = ℕ} 0 1 = cc in omega arith)
-or_right false b e = e
-
-and_right : (a b : Bool) → (a && b) ≡ true → b ≡ true
-and_right true b e = e
-and_right false b e = absurd (let z : ◌≡◌ {A = ℕ} 0 1 = cc in omega arith)
-
 pub whole : (s : List ℕ) (at : ℕ) → is_cut s at ≡ false → at + 6 + get32 s at ≤ length s
 unfolding is_cut
-whole s at e = ltb-false _ _ (or_right (ltb (length s) (at + 6)) (ltb (length s) (at + 6 + get32 s at)) e)
+whole s at e = ltb-false _ _ (or_parts (ltb (length s) (at + 6)) (ltb (length s) (at + 6 + get32 s at)) e).1
 
 pub sure : (s : List ℕ) (at want : ℕ) → Sure (seen_at s at want) s at want
 unfolding seen_at seen_of ended_of
@@ -70,7 +61,7 @@ sure s at want =
     (λ e. pick_case P (is_cut s at) _ _ (λ k. tt)
     (λ k. pick_case Q (leb 32768 kind) _ _ (λ h. (refl, whole s at k))
     (λ h. pick_case Q (eqb kind want && ltb want 9) _ _
-    (λ w. pick_case Q (length_fits want size) _ _ (λ f. (refl, whole s at k, ltb-true want 9 (and_right (eqb kind want) (ltb want 9) w))) (λ f. tt))
+    (λ w. pick_case Q (length_fits want size) _ _ (λ f. (refl, whole s at k, ltb-true want 9 (and_parts (eqb kind want) (ltb want 9) w).1)) (λ f. tt))
     (λ w. tt))))
 
 -- from a place on, with as much fuel as there are bytes left
@@ -206,15 +197,11 @@ rest_whole s at want v found ps l n e r =
     let k : map part_of (list_of ps) ≡ parts_before want found = ap (map part_of) (l ∙ sym t) in
     ap Filed.parts k ∙ rest_nothing s at want v (parts_before want found) e r
 
-map_snoc : (xs : List Payload) (p : Payload) → map part_of (xs ++ (p ∷ [])) ≡ map part_of xs ++ (part_of p ∷ [])
-map_snoc [] p = refl
-map_snoc (x ∷ xs) p = ap (λ (ys : List Part). part_of x ∷ ys) (map_snoc xs p)
-
 -- the next payload stands behind those found so far
 pub rest_taken : (s : List ℕ) (at want : ℕ) (v : Filed) (found : List Payload) (p : Payload) (size : ℕ) → 1 ≤ want → length found ≡ 8 → seen_at s at want ≡ Ok (Some (Record.Wanted size)) → part_of p ≡ record { start = at + 6; size = size } → rest_of s at want (parts_before want found) ≡ v → rest_of s (at + 6 + size) (want + 1) (parts_before (want + 1) (set found (want - 1) p)) ≡ v
 rest_taken s at want v found p size h n e w t =
     let k : want < 9 = (sure_so s at want (Ok (Some (Record.Wanted size))) e).2 in
     let z : want + 1 - 1 ≡ want - 1 + 1 = omega arith in
     let l : want - 1 < length found = omega arith in
-    rw (z, take_more_set found (want - 1) p l, map_snoc, w)
+    rw (z, take_more_set found (want - 1) p l, map_push part_of, w)
     (rest_wanted s at want v (parts_before want found) size e t)

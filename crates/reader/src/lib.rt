@@ -9,7 +9,8 @@ ghost use Rattle.reader.specs.Tokens.{widen_token, Widened};
 
 use words::Word;
 
-// A payload: where its first byte stands in the file, and its bytes, which are a part of the file's.
+// A payload: where its first byte stands in the file, and its bytes, which are a part of the file's. The rules tell a payload by its
+// first byte and its length.
 #[derive(Clone, Copy, Debug)]
 pub struct Payload<'a> {
     pub start: usize,
@@ -108,7 +109,7 @@ fn fitted(kind: usize, entry: usize, size: usize, want: usize) -> Result<Record,
 }
 
 // "30 cut record"
-#[tactic(auto, using(crate::specs::Reading::cut_head, crate::specs::Reading::cut_payload))]
+#[tactic(auto, using(crate::specs::Reading::cut_head))]
 fn cut(s: &[u8], at: usize) -> bool
     requires { at ≤ length s.now }
     ensures { result ≡ is_cut s.now at }
