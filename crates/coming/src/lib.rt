@@ -57,6 +57,7 @@ fn dot_fits(t: &Tables, state: u32, production: u32, dot: u32) -> bool
 }
 
 // 15 at an item.
+#[tactic(auto, unfolding(rules::specs::Check::ok15))]
 fn fits_at(t: &Tables, i: u32) -> bool
     ensures { result ≡ ok15 t.now i }
 {
