@@ -1,2 +1,2 @@
--- What the contracts of `coming` cite: test 15 over single slices.
+-- What the contracts of `coming` cite: test 15 in the steps of its functions.
 pub mod Coming

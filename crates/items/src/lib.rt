@@ -35,6 +35,7 @@ pub fn has_item(t: &Tables, state: u32, production: u32, dot: u32, lookahead: Op
 }
 
 // Has item i the state, production and dot of the item before it?
+#[tactic(auto, using(crate::specs::Lookup::first_new, crate::specs::Lookup::later_repeats))]
 pub fn repeats(t: &Tables, i: u32) -> bool
     ensures { result ≡ repeats t.now i }
 {

@@ -9,6 +9,7 @@ use tables::Tables;
 use tables::scans::first_bad;
 
 // 16 of a cell in a state's row.
+#[tactic(auto, unfolding(rules::specs::Check::reduce_fits, crate::specs::Lookup::has_item_with))]
 fn reduce_fits(t: &Tables, state: u32, cell: Cell) -> bool
     ensures { result ≡ reduce_fits t.now state cell }
 {

@@ -1,24 +1,16 @@
--- `coming::comes_from` decides every symbol: all passed are well, and the first that is not decides.
+-- `coming::comes_from` tests every symbol.
 -- Assumes nothing.
-use borrow.Author.Rules.{rules}
-use mathlib.Core.Path.{sym}
-use Rattle.tables.specs.Places.{below_none, below_turn, below_fails}
-use Rattle.items.specs.Ranges.{all_done}
+use Rattle.std.proofs.Common.{rules, ◌&&◌, ◌||◌, not}
+use Rattle.std.proofs.Math.Dec.{eqb}
+use Rattle.rules.specs.Tables.{move, goes_to}
+use Rattle.rules.specs.Check.{has_item}
+use Rattle.items.specs.Lookup.{has_item_with}
 use Rattle.coming.specs.Coming.{comes_from}
-use Rattle.std.proofs.lemmas.Bool.{not_from_false, not_from_true}
 use Rattle.coming.proofs.comes_from.Goals as goal
 
-pub loop-over-init : goal.loop-over-init
-loop-over-init c = (search rules, below_none _)
-
-pub returns-then-not-comes_over : goal.returns-then-not-comes_over
-unfolding comes_from
-returns-then-not-comes_over c = sym (below_fails _ _ _ _ (search rules) c.comes_over.ensures (not_from_false _ c.if-not-comes_over.true))
-
-pub loop-over-preserved : goal.loop-over-preserved
-loop-over-preserved c =
-    (search rules, below_turn _ _ _ c.comes_over.ensures (not_from_true _ c.if-not-comes_over.false) c.loop-over.invariant.1)
-
 pub returns : goal.returns
-unfolding comes_from
-returns c = sym (all_done _ _ _ c.loop-over.invariant.0 (search rules) c.loop-over.invariant.1)
+unfolding comes_from has_item_with
+returns c =
+    let a = c.args in
+    rw (← c.kinds.ensures.value, ← c.nonterminals.ensures.value)
+    (c.all_below.ensures (λ X. not (goes_to (move a.t.now a.from X) a.state) || (eqb X a.before && has_item a.t.now a.from a.production a.dot)) (λ i b h e. search rules))

@@ -1,16 +1,22 @@
--- `coming::dot_fits` goes by the dot and the state as `dot_fits_in` does.
+-- `coming::dot_fits` goes by the dot, the production and the state.
 -- Assumes nothing.
-use mathlib.Core.Path.{sym, ◌∙◌}
-use Rattle.coming.specs.Coming.{at_front, in_start, past_front}
+use borrow.Author.Tests.{eq-eqb, ne_eqb}
+use Rattle.coming.specs.Coming.{at_front, past_front}
 use Rattle.coming.proofs.dot_fits.Goals as goal
 
-pub returns-then-dot-eq0 : goal.returns-then-dot-eq0
-returns-then-dot-eq0 c = c.starts_well.ensures ∙ sym (at_front _ _ _ _ _ _ _ _ _ _ _ _ c.if-dot-eq0.true)
+pub returns-then-production-ne0 : goal.returns-then-production-ne0
+returns-then-production-ne0 c =
+    rw (at_front _ _ _ _ c.in-None.ensures) (simp (ne_eqb _ _ c.if-production-ne0.true))
 
-pub returns-then-state-eq0 : goal.returns-then-state-eq0
-returns-then-state-eq0 c = sym (in_start _ _ _ _ _ _ _ _ _ _ _ _ c.if-dot-eq0.false c.if-state-eq0.true)
+pub returns-else-production-ne0 : goal.returns-else-production-ne0
+returns-else-production-ne0 c =
+    rw (at_front _ _ _ _ c.in-None.ensures) (simp (eq-eqb _ _ c.if-production-ne0.false))
 
-pub returns : goal.returns
-returns c =
-    c.came_well.ensures
-    ∙ sym (past_front _ _ _ _ _ _ _ _ _ _ _ _ c.if-dot-eq0.false c.if-state-eq0.false)
+pub returns-then-state-ne0 : goal.returns-then-state-ne0
+returns-then-state-ne0 c =
+    rw (past_front _ _ _ _ _ c.in-Some.ensures.0 c.in-Some.ensures.1)
+    (simp (ne_eqb _ _ c.if-state-ne0.true) c.comes_well.ensures)
+
+pub returns-else-state-ne0 : goal.returns-else-state-ne0
+returns-else-state-ne0 c =
+    rw (past_front _ _ _ _ _ c.in-Some.ensures.0 c.in-Some.ensures.1) (simp (eq-eqb _ _ c.if-state-ne0.false))
