@@ -5,4 +5,4 @@ use Rattle.reader.specs.Reading.{cut_payload}
 use Rattle.reader.proofs.cut.Goals as goal
 
 pub returns-else-s-at-lt6 : goal.returns-else-s-at-lt6
-returns-else-s-at-lt6 c = rw c.get32.ensures (sym (cut_payload _ _ (omega arith)))
+returns-else-s-at-lt6 c = rw c.get.ensures (sym (cut_payload _ _ (omega arith)))
