@@ -1,11 +1,12 @@
 -- The lookup among a call's items, with any lookahead or with a given one: `has_item` and `has_item_for` of the rules as one. And
 -- whether an item repeats the place of the one before it.
-use Rattle.std.specs.Prelude.{Bool, true, false, ◌&&◌, ◌≡◌, refl, ℕ, zero, suc, ◌-◌, ◌≤◌, Option, Some, None}
+use Rattle.std.specs.Prelude.{Bool, true, false, ◌&&◌, ◌≡◌, refl, ℕ, zero, suc, ◌*◌, ◌-◌, ◌≤◌, ◌<◌, Option, Some, None, length}
 use Rattle.std.proofs.Common.{arith, eqb-true}
 use Rattle.std.proofs.Math.Dec.{eqb}
-use Rattle.rules.specs.Tables.{Tables, Item, item_at}
-use Rattle.rules.specs.Check.{is_at, has_item, has_item_for}
-use Rattle.tables.specs.Fit.{and_left, and_right}
+use Rattle.rules.specs.Tables.{Tables, item_count, Item, item_at}
+use Rattle.rules.specs.Check.{is_at, has_item, has_item_for, before, item_fits, ascends, ok14}
+use Rattle.tables.specs.Places.{first_bad, good_at}
+use Rattle.tables.specs.Fit.{Fit, and_left, and_right}
 
 -- is there an item of this state, production and dot: with any lookahead, or with this one
 unfoldable pub has_item_with : Tables → ℕ → ℕ → ℕ → Option ℕ → Bool
@@ -34,3 +35,20 @@ unfolding is_at
 same_place s p d x h =
     let two = and_left (eqb x.state s && eqb x.production p) (eqb x.dot d) h in
     (eqb-true _ _ (and_left (eqb x.state s) (eqb x.production p) two), eqb-true _ _ (and_right (eqb x.state s) (eqb x.production p) two), eqb-true _ _ (and_right (eqb x.state s && eqb x.production p) (eqb x.dot d) h))
+
+-- What a search of the list may lean on, from tests 10 and 14: the list is whole, and "strictly ascending". The scan from the front
+-- needs none of it.
+pub record Listed (T : Tables) : Type 0 where
+  pub few : item_count T ≤ 65535
+  pub whole : length T.items ≡ 8 * item_count T
+  pub ascending : (i : ℕ) → suc i < item_count T → before (item_at T i) (item_at T (suc i)) ≡ true
+
+pub listed : (T : Tables) → Fit T → first_bad (ok14 T) 0 (item_count T) ≡ None → Listed T
+unfolding ok14 ascends
+listed T f h =
+    record {
+      few = f.items_few;
+      whole = f.items;
+      ascending =
+          λ i k. and_right (item_fits T (item_at T (suc i))) _ (good_at (ok14 T) 0 (item_count T) h (suc i) (omega arith) (omega arith));
+    }
