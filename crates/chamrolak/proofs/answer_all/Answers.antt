@@ -3,12 +3,6 @@
 use Rattle.chamrolak.specs.Reached.{leaves, lent_in}
 use Rattle.chamrolak.proofs.answer_all.Goals as goal
 
-pub overflow_cast-st-3 : goal.overflow_cast-st-3
-overflow_cast-st-3 c = record { fits = c.run_all-st.ensures.counted.children }
-
-pub overflow_cast-st-4 : goal.overflow_cast-st-4
-overflow_cast-st-4 c = record { fits = c.run_all-st.ensures.counted.records }
-
 pub returns : goal.returns
 returns c = let x = c.args in
     let g = x.g.now in

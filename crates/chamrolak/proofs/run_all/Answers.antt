@@ -1,12 +1,8 @@
 -- `chamrolak::run_all` is the byte model's run: the call serves the model's, and meets what the driver asks.
 -- Assumes nothing.
-use native.Mathlib.Omega.{arith}
 use Rattle.driver.specs.Served
 use Rattle.chamrolak.specs.Reached.{rooms_in, call_in, own, counted}
 use Rattle.chamrolak.proofs.run_all.Goals as goal
-
-pub drive-requires : goal.drive-requires
-drive-requires c = let f = c.requires in (f.small, omega (arith, f.depth_is), omega (arith, f.depth_is))
 
 pub returns : goal.returns
 returns c = let x = c.args in
