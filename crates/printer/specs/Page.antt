@@ -17,8 +17,8 @@ pub record Written (p : Page) (t : List ℕ) (q : Page) : Type 0 where
 pub nothing : (p : Page) → Written p [] p
 nothing p = record { wrote = none p.buf.now p.at; same_buffer = refl }
 
-pub behind : {p q r : Page} {x y : List ℕ} → Written p x q → Written q y r → Written p (x ++ y) r
-behind v w = record { wrote = then v.wrote w.wrote; same_buffer = w.same_buffer ∙ v.same_buffer }
+pub chained : {p q r : Page} {x y : List ℕ} → Written p x q → Written q y r → Written p (x ++ y) r
+chained v w = record { wrote = then v.wrote w.wrote; same_buffer = w.same_buffer ∙ v.same_buffer }
 
 -- What a loop keeps: with the rest of a text behind, the whole text is written.
 pub record Left (p : Page) (t : List ℕ) (q : Page) (rest : List ℕ) : Type 0 where

@@ -2,14 +2,14 @@
 -- Assumes nothing.
 use Rattle.std.proofs.Common.{◌≤◌, sym, ◌∙◌, arith}
 use Rattle.rules.specs.Basics.{text, codes_from}
-use Rattle.printer.specs.Page.{behind, left_turn, left_none}
+use Rattle.printer.specs.Page.{chained, left_turn, left_none}
 use Rattle.printer.specs.TreeText.{children_turn, children_none, leaf_byte, leaf_text, tree_none, tree_token, tree_mark, tree_branch}
 use Rattle.printer.proofs.Page.+children_tree.Goals as goal
 
 pub children-loop-j-preserved : goal.children-loop-j-preserved
 children-loop-j-preserved t c =
     left_turn _ _ _ _ _ _ _ (children_turn _ _ _ _ _ _ c.loop-j.j (omega arith))
-    (behind c.comma.ensures (rw c.word.ensures at c.tree.ensures)) c.loop-j.invariant
+    (chained c.comma.ensures (rw c.word.ensures at c.tree.ensures)) c.loop-j.invariant
 
 pub children-returns : goal.children-returns
 children-returns t c = left_none _ _ _ _ (children_none _ _ _ _ _ _ c.loop-j.j (omega arith)) c.loop-j.invariant
@@ -32,4 +32,4 @@ tree-returns-in_default t c =
     let k : 2 ≤ c.word.result = omega arith in
     rw
     (tree_branch _ _ _ _ _ c.if-fuel-eq0.false (rw c.word.ensures at k), ← c.word-number.ensures, ← c.word-child.ensures, ← c.word-count.ensures)
-    (behind (behind c.head.ensures c.children.ensures) c.byte.ensures)
+    (chained (chained c.head.ensures c.children.ensures) c.byte.ensures)

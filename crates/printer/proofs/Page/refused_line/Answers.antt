@@ -2,9 +2,9 @@
 -- Assumes nothing.
 use Rattle.rules.specs.Basics.{text, codes_from}
 use Rattle.rules.specs.File.{refused_line}
-use Rattle.printer.specs.Page.{behind}
+use Rattle.printer.specs.Page.{chained}
 use Rattle.printer.proofs.Page.refused_line.Goals as goal
 
 pub returns : goal.returns
 unfolding refused_line text codes_from
-returns c = behind (behind c.labelled.ensures c.spaced.ensures) c.byte.ensures
+returns c = chained (chained c.labelled.ensures c.spaced.ensures) c.byte.ensures
