@@ -183,6 +183,8 @@ pub fn read_file(s: &[u8]) -> Result<Payloads<'_>, FileError>
     }; 8];
     let mut at = 0;
     let mut want = 1;
+    // A loop and no iterator of records: each is judged by the kind that is next, and an iterator would hold these two counts in a
+    // struct and be no plainer.
     while let Some(record) = record_at(s, at, want)? {
         match record {
             Record::Skipped(size) => at = at + 6 + size,
