@@ -88,6 +88,7 @@ pub struct Lengths {
 }
 
 // The tables of a call: its seven slices in the file's order, and the numbers that stand in the first of them, read once.
+#[derive(Drop)]
 pub struct Tables<'a> {
     sizes: &'a [u8],
     actions: &'a [u8],
