@@ -52,14 +52,14 @@ pub fn size(productions: &[u8], production: usize) -> usize
 }
 
 // A byte; past the end 0.
-fn byte(s: &[u8], at: usize) -> u8
+pub fn byte(s: &[u8], at: usize) -> u8
     ensures { result ≡ get_or s.now at 0 }
 {
     if at < s.len() { s[at] } else { 0 }
 }
 
 // A bit of a byte, counted from the lowest.
-fn bit(byte: u8, i: u8) -> u8
+pub fn bit(byte: u8, i: u8) -> u8
     requires { i < 8 }
     ensures { result ≡ byte / 2 ^ i % 2 }
 {
