@@ -1,6 +1,6 @@
 // 14: "an item is out of range, or the list is not strictly ascending". An item's range is tested first, then item i against the
 // one before it, so a bad pair's place is its later item.
-ghost use Rattle.std.specs.Prelude.{◌≡◌};
+ghost use Rattle.std.specs.Prelude.{◌≡◌, ◌<◌, ◌^◌};
 ghost use Rattle.rules.specs.Tables.{item_count};
 ghost use Rattle.rules.specs.Check.{item_fits, before, ascends, ok14};
 ghost use Rattle.tables.specs.Places.{found};
@@ -14,10 +14,10 @@ use tables::{Item, Tables};
 fn item_fits(t: &Tables, x: Item) -> bool
     ensures { result ≡ item_fits t.now (item_of x) }
 {
-    ((x.state as u32) < t.states())
-        & ((x.production as u32) < t.production_count())
-        & (x.dot as u32 <= t.size(x.production as u32))
-        & (x.lookahead as u32 <= t.kinds() + 1)
+    ((x.state as usize) < t.states())
+        & ((x.production as usize) < t.production_count())
+        & (x.dot as usize <= t.size(x.production as usize))
+        & (x.lookahead as usize <= t.kinds() + 1)
 }
 
 // The order of two items: state, then production, then dot, then lookahead.
@@ -28,7 +28,8 @@ fn before(x: Item, y: Item) -> bool
 }
 
 // Item i and the one before it.
-fn ascends(t: &Tables, i: u32) -> bool
+fn ascends(t: &Tables, i: usize) -> bool
+    requires { i < 2 ^ 40 }
     ensures { result ≡ ascends t.now i }
 {
     if i == 0 {
@@ -39,7 +40,8 @@ fn ascends(t: &Tables, i: u32) -> bool
 
 // The test at an item.
 #[tactic(auto, unfolding(rules::specs::Check::ok14))]
-pub fn item_allowed(t: &Tables, i: u32) -> bool
+pub fn item_allowed(t: &Tables, i: usize) -> bool
+    requires { i < 2 ^ 32 }
     ensures { result ≡ ok14 t.now i }
 {
     item_fits(t, t.item(i)) && ascends(t, i)

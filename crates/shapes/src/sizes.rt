@@ -1,6 +1,6 @@
 // 10: "a size, flag or set bit is out of range, or a list's length disagrees with the sizes"; its place is 0. Nothing is asked of
 // the bytes: every size is a 16-bit number, so no product or sum of them is out of range here.
-ghost use Rattle.std.specs.Prelude.{◌≡◌};
+ghost use Rattle.std.specs.Prelude.{◌≡◌, ◌<◌, ◌^◌};
 ghost use Rattle.rules.specs.Basics.{between};
 ghost use Rattle.rules.specs.Check.{sizes_fit, lengths_agree, set_fits, ok10};
 ghost use Rattle.tables.specs.Places.{found};
@@ -9,7 +9,7 @@ ghost use Rattle.shapes.specs.Sizes.{one_place};
 use tables::Tables;
 use tables::scans::all_below;
 
-fn between(low: u32, high: u32, n: u32) -> bool
+fn between(low: usize, high: usize, n: usize) -> bool
     ensures { result ≡ between low high n }
 {
     low <= n && n <= high
@@ -33,22 +33,23 @@ fn sizes_fit(t: &Tables) -> bool
 fn lengths_agree(t: &Tables) -> bool
     ensures { result ≡ lengths_agree t.now }
 {
-    let states = t.states() as usize;
-    let nonterminals = t.nonterminals() as usize;
+    let states = t.states();
+    let nonterminals = t.nonterminals();
     let count = t.production_count();
     let found = t.lengths();
-    (found.actions == 2 * (states * (t.kinds() as usize + 2)))
+    (found.actions == 2 * (states * (t.kinds() + 2)))
         & (found.gotos == 2 * (states * nonterminals))
-        & (found.productions == 4 * count as usize)
+        & (found.productions == 4 * count)
         & all_below(count, |p| t.size(p) <= 32)
         & (found.rights == 2 * t.right_start(count))
-        & (found.items == 8 * t.item_count() as usize)
+        & (found.items == 8 * t.item_count())
         & (found.sets == 33 * nonterminals)
 }
 
 // A set: its nullable flag, then its bits; a kind past t is in no set.
 #[tactic(auto, unfolding(rules::specs::Check::set_fits))]
-fn set_fits(t: &Tables, nonterminal: u32) -> bool
+fn set_fits(t: &Tables, nonterminal: usize) -> bool
+    requires { nonterminal < 2 ^ 40 }
     ensures { result ≡ set_fits t.now nonterminal }
 {
     let kinds = t.kinds();

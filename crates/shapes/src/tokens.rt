@@ -13,5 +13,5 @@ pub fn tokens_fit(tokens: &[u8]) -> bool
     let n = tokens.len() / 12;
     tokens.len() % 12 == 0
         && n <= 4096
-        && all_below(n as u32, |i| u32::word(tokens, 12 * i as usize) <= 65535)
+        && all_below(n, |i| u32::word(tokens, 12 * i) <= 65535)
 }

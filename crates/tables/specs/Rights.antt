@@ -35,7 +35,11 @@ module _ (T : Tables) (X : ℕ) where
   unfolding in_first
   first_other k h = simp (lt-leb _ _ h)
 
--- one more production is behind: the sum grows by its size
+-- nothing is before the first production, and where one more is behind, the sum grows by its size
+pub start_none : (T : Tables) → 0 ≡ right_start T 0
+unfolding right_start
+start_none T = refl
+
 pub start_more : (T : Tables) (p sum n : ℕ) → sum ≡ right_start T p → n ≡ size T p → sum + n ≡ right_start T (p + 1)
 unfolding right_start
 start_more T p sum n e f = rw (add-one, e, f)

@@ -152,39 +152,39 @@ impl<'a> Tables<'a> {
     }
 
     // "Sizes: states, t, nonterminals, productions, items, flag." Each is a 16-bit number.
-    pub fn states(&self) -> u32
+    pub fn states(&self) -> usize
         ensures value { result ≡ states self.now }
         ensures bound { result < 2 ^ 16 }
     {
-        self.states as u32
+        self.states as usize
     }
 
-    pub fn kinds(&self) -> u32
+    pub fn kinds(&self) -> usize
         ensures value { result ≡ kinds self.now }
         ensures bound { result < 2 ^ 16 }
     {
-        self.kinds as u32
+        self.kinds as usize
     }
 
-    pub fn nonterminals(&self) -> u32
+    pub fn nonterminals(&self) -> usize
         ensures value { result ≡ nonterminals self.now }
         ensures bound { result < 2 ^ 16 }
     {
-        self.nonterminals as u32
+        self.nonterminals as usize
     }
 
-    pub fn production_count(&self) -> u32
+    pub fn production_count(&self) -> usize
         ensures value { result ≡ production_count self.now }
         ensures bound { result < 2 ^ 16 }
     {
-        self.production_count as u32
+        self.production_count as usize
     }
 
-    pub fn item_count(&self) -> u32
+    pub fn item_count(&self) -> usize
         ensures value { result ≡ item_count self.now }
         ensures bound { result < 2 ^ 16 }
     {
-        self.item_count as u32
+        self.item_count as usize
     }
 
     #[tactic(auto, unfolding(rules::specs::Tables::flag))]
@@ -209,32 +209,32 @@ impl<'a> Tables<'a> {
     }
 
     // "Action cells are signed 16-bit, by state." "Goto cells, by state and nonterminal."
-    pub fn action(&self, state: u32, column: u32) -> Cell
+    pub fn action(&self, state: usize, column: usize) -> Cell
         ensures { result ≡ action self.now state column }
     {
         cell_in(
             self.actions,
             self.states as usize,
             self.kinds as usize + 2,
-            state as usize,
-            column as usize,
+            state,
+            column,
         )
     }
 
-    pub fn goto(&self, state: u32, nonterminal: u32) -> Cell
+    pub fn goto(&self, state: usize, nonterminal: usize) -> Cell
         ensures { result ≡ goto self.now state nonterminal }
     {
         cell_in(
             self.gotos,
             self.states as usize,
             self.nonterminals as usize,
-            state as usize,
-            nonterminal as usize,
+            state,
+            nonterminal,
         )
     }
 
     // The transition on a symbol: its shift, or its goto.
-    pub fn transition(&self, state: u32, symbol: u32) -> Cell
+    pub fn transition(&self, state: usize, symbol: usize) -> Cell
         ensures { result ≡ move self.now state symbol }
     {
         let kinds = self.kinds();
@@ -246,70 +246,78 @@ impl<'a> Tables<'a> {
     }
 
     // The cells by their places.
-    pub fn action_cell(&self, place: u32) -> Cell
+    pub fn action_cell(&self, place: usize) -> Cell
+        requires { place < 2 ^ 40 }
         ensures { result ≡ cell_at self.now.actions place }
     {
-        cell_at(self.actions, place as usize)
+        cell_at(self.actions, place)
     }
 
-    pub fn goto_cell(&self, place: u32) -> Cell
+    pub fn goto_cell(&self, place: usize) -> Cell
+        requires { place < 2 ^ 40 }
         ensures { result ≡ cell_at self.now.gotos place }
     {
-        cell_at(self.gotos, place as usize)
+        cell_at(self.gotos, place)
     }
 
     // "productions (left side, length)"
     #[tactic(auto, unfolding(rules::specs::Tables::left))]
-    pub fn left(&self, production: u32) -> u32
+    pub fn left(&self, production: usize) -> usize
+        requires { production < 2 ^ 40 }
         ensures value { result ≡ left self.now production }
         ensures bound { result < 2 ^ 16 }
     {
-        u16::word(self.productions, 4 * production as usize) as u32
+        u16::word(self.productions, 4 * production) as usize
     }
 
     #[tactic(auto, unfolding(rules::specs::Tables::size))]
-    pub fn size(&self, production: u32) -> u32
+    pub fn size(&self, production: usize) -> usize
+        requires { production < 2 ^ 40 }
         ensures value { result ≡ size self.now production }
         ensures bound { result < 2 ^ 16 }
     {
-        u16::word(self.productions, 4 * production as usize + 2) as u32
+        u16::word(self.productions, 4 * production + 2) as usize
     }
 
     // The right sides stand one behind the other: where the right side of a production starts, in symbols.
-    pub fn right_start(&self, production: u32) -> usize
+    #[tactic(auto, using(crate::specs::Rights::start_more, crate::specs::Rights::start_none))]
+    pub fn right_start(&self, production: usize) -> usize
+        requires { production < 2 ^ 40 }
         ensures value { result ≡ right_start self.now production }
         ensures bound { result ≤ 65535 * production }
     {
         let mut sum = 0;
         for p in 0..production {
-            sum += self.size(p) as usize;
+            sum += self.size(p);
         }
         sum
     }
 
     // The symbol at a place of the right sides, and the one behind a dot.
     #[tactic(auto, unfolding(crate::specs::Rights::symbol_in))]
-    pub fn symbol_at(&self, at: usize) -> u32
+    pub fn symbol_at(&self, at: usize) -> usize
         requires { at < 2 ^ 62 }
         ensures value { result ≡ symbol_in self.now.rights at }
         ensures bound { result < 2 ^ 16 }
     {
-        u16::word(self.rights, 2 * at) as u32
+        u16::word(self.rights, 2 * at) as usize
     }
 
-    pub fn symbol(&self, production: u32, dot: u32) -> u32
+    pub fn symbol(&self, production: usize, dot: usize) -> usize
+        requires { (production < 2 ^ 40) × (dot < 2 ^ 40) }
         ensures value { result ≡ symbol self.now production dot }
         ensures bound { result < 2 ^ 16 }
     {
-        self.symbol_at(self.right_start(production) + dot as usize)
+        self.symbol_at(self.right_start(production) + dot)
     }
 
     // "An item is (state, production, dot, lookahead column)."
     #[tactic(auto, unfolding(rules::specs::Tables::item_at))]
-    pub fn item(&self, i: u32) -> Item
+    pub fn item(&self, i: usize) -> Item
+        requires { i < 2 ^ 40 }
         ensures { item_of result ≡ item_at self.now i }
     {
-        let at = 8 * i as usize;
+        let at = 8 * i;
         Item {
             state: u16::word(self.items, at),
             production: u16::word(self.items, at + 2),
@@ -320,22 +328,25 @@ impl<'a> Tables<'a> {
 
     // "A first set: nullable flag, then 32 bytes, kind k at bit k mod 8 of byte k/8."
     #[tactic(auto, unfolding(rules::specs::Tables::nullable_byte))]
-    pub fn nullable_byte(&self, nonterminal: u32) -> u8
+    pub fn nullable_byte(&self, nonterminal: usize) -> u8
+        requires { nonterminal < 2 ^ 40 }
         ensures { result ≡ nullable_byte self.now nonterminal }
     {
-        byte(self.sets, 33 * nonterminal as usize)
+        byte(self.sets, 33 * nonterminal)
     }
 
     #[tactic(auto, unfolding(rules::specs::Tables::in_set))]
-    pub fn in_set(&self, nonterminal: u32, kind: u32) -> bool
+    pub fn in_set(&self, nonterminal: usize, kind: usize) -> bool
+        requires { nonterminal < 2 ^ 40 }
         ensures { result ≡ in_set self.now nonterminal kind }
     {
-        let b = byte(self.sets, 33 * nonterminal as usize + 1 + kind as usize / 8);
+        let b = byte(self.sets, 33 * nonterminal + 1 + kind / 8);
         bit(b, (kind % 8) as u8) == 1
     }
 
     // Whether a symbol can be nothing: a nonterminal by its flag, and no terminal.
-    pub fn nullable(&self, symbol: u32) -> bool
+    pub fn nullable(&self, symbol: usize) -> bool
+        requires { symbol < 2 ^ 40 }
         ensures { result ≡ nullable self.now symbol }
     {
         let kinds = self.kinds();
@@ -347,7 +358,8 @@ impl<'a> Tables<'a> {
     }
 
     // Whether a symbol can begin with a kind: a nonterminal by its first set, a terminal with itself.
-    pub fn in_first(&self, symbol: u32, kind: u32) -> bool
+    pub fn in_first(&self, symbol: usize, kind: usize) -> bool
+        requires { symbol < 2 ^ 40 }
         ensures { result ≡ in_first self.now symbol kind }
     {
         let kinds = self.kinds();
@@ -359,12 +371,12 @@ impl<'a> Tables<'a> {
     }
 
     // Whether the n symbols from a place on can all be nothing.
-    pub fn all_nullable(&self, from: usize, n: u32) -> bool
-        requires { from < 2 ^ 61 }
+    pub fn all_nullable(&self, from: usize, n: usize) -> bool
+        requires { from + n < 2 ^ 62 }
         ensures { result ≡ all_nullable self.now (symbols_in self.now.rights from n) }
     {
         for d in 0..n {
-            if !self.nullable(self.symbol_at(from + d as usize)) {
+            if !self.nullable(self.symbol_at(from + d)) {
                 return false;
             }
         }
@@ -372,12 +384,12 @@ impl<'a> Tables<'a> {
     }
 
     // Whether the n symbols from a place on can begin with a kind, "by the given sets".
-    pub fn begins_with(&self, from: usize, n: u32, kind: u32) -> bool
-        requires { from < 2 ^ 61 }
+    pub fn begins_with(&self, from: usize, n: usize, kind: usize) -> bool
+        requires { from + n < 2 ^ 62 }
         ensures { result ≡ begins_with self.now (symbols_in self.now.rights from n) kind }
     {
         for d in 0..n {
-            let x = self.symbol_at(from + d as usize);
+            let x = self.symbol_at(from + d);
             if self.in_first(x, kind) {
                 return true;
             }
