@@ -1,2 +1,2 @@
--- What the contracts of `following` cite: test 17 over single slices.
+-- What the contracts of `following` cite: the places of test 17, and what stands behind a dot.
 pub mod Following
