@@ -52,6 +52,7 @@ impl<'a> Rest<'a> {
         }
     }
 
+    #[tactic(auto, unfolding(rules::specs::Check::can_begin))]
     // Can b begin "what follows B and then a, by the given sets"?
     fn can_begin(&self, b: u32) -> bool
         ensures { result ≡ can_begin self.now.tables self.now.symbols self.now.lookahead b }
@@ -81,6 +82,7 @@ impl<'a> Rest<'a> {
 }
 
 // "Before symbol X: the transition on X exists and its state has (p, d+1, a)."
+#[tactic(auto, unfolding(rules::specs::Check::moves_on, items::specs::Lookup::has_item_with))]
 fn moves_on(t: &Tables, cell: Cell, x: Item) -> bool
     ensures { result ≡ moves_on t.now cell x.production x.dot x.lookahead }
 {
@@ -152,6 +154,7 @@ fn follow_ups(t: &Tables, x: Item) -> bool
 }
 
 // 17 at a place: an item, or the item count.
+#[tactic(auto, unfolding(rules::specs::Check::ok17, items::specs::Lookup::has_item_with))]
 fn fits_at(t: &Tables, i: u32) -> bool
     ensures { result ≡ ok17 t.now i }
 {
