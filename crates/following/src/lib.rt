@@ -52,15 +52,16 @@ impl<'a> Rest<'a> {
         }
     }
 
-    #[tactic(auto, unfolding(rules::specs::Check::can_begin))]
     // Can b begin "what follows B and then a, by the given sets"?
+    #[tactic(auto, unfolding(rules::specs::Check::can_begin))]
     fn can_begin(&self, b: u32) -> bool
         ensures { result ≡ can_begin self.now.tables self.now.symbols self.now.lookahead b }
     {
         self.t.begins_with(self.from, self.n, b) | (self.empty & (b == self.lookahead))
     }
 
-    // "s also has (q, 0, b) for .. each b that can begin what follows B and then a"
+    // "s also has (q, 0, b) for .. each b that can begin what follows B and then a". The lookup goes through the items, so it is made
+    // only of such a b.
     fn opens_each(&self, state: u32, q: u32) -> bool
         ensures { result ≡ opens_each self.now state q }
     {
@@ -99,22 +100,20 @@ fn moves_on(t: &Tables, cell: Cell, x: Item) -> bool
 }
 
 // The follow-ups before a symbol: a terminal opens nothing.
+#[tactic(auto, using(tables::specs::Rights::symbol_in_law, crate::specs::Following::behind_dot), unfolding(rules::specs::Check::follows_symbol))]
 fn follows_symbol(t: &Tables, x: Item) -> bool
     requires { x.dot < size t.now x.production }
     ensures { result ≡ follows_symbol t.now x.state x.production x.dot x.lookahead }
 {
     let state = x.state as u32;
+    let production = x.production as u32;
     let kinds = t.kinds();
-    let at = t.right_start(x.production as u32) + x.dot as usize;
+    let at = t.right_start(production) + x.dot as usize;
     let symbol = t.symbol_at(at);
-    if !moves_on(t, t.transition(state, symbol), x) {
-        return false;
-    }
-    if symbol <= kinds {
-        return true;
-    }
-    let n = t.size(x.production as u32) - (x.dot as u32 + 1);
-    Rest::new(t, at + 1, n, x.lookahead as u32).opens(state, symbol - (kinds + 1))
+    let n = t.size(production) - (x.dot as u32 + 1);
+    moves_on(t, t.transition(state, symbol), x)
+        && (symbol <= kinds
+            || Rest::new(t, at + 1, n, x.lookahead as u32).opens(state, symbol - (kinds + 1)))
 }
 
 // "At the end: cell (s, a) reduces p."
@@ -141,6 +140,7 @@ fn has_goto(t: &Tables, x: Item) -> bool
 }
 
 // "Follow-ups of (s, p, d, a)."
+#[tactic(auto, unfolding(rules::specs::Check::follow_ups))]
 fn follow_ups(t: &Tables, x: Item) -> bool
     ensures { result ≡ follow_ups t.now x.state x.production x.dot x.lookahead }
 {
