@@ -1,5 +1,7 @@
 // The driver: a run begins, and goes on by steps, each one look at an action cell and what it then does.
 // A run is the byte model's, for every call that the numbers and slices serve: `drive`, whose parts are `begin`, `run` and `step`.
+// `Safe` stays a clause, no invariant of a struct of call, rooms and state: `begin`, and `moves::arrive`, which docs/MAP.md names, ask
+// nothing of a call's sizes, so that the type would ask more of their callers.
 #![tactic(auto)]
 
 ghost use Rattle.std.specs.Prelude.{List, ◌≡◌, ℕ, ◌+◌, ◌*◌, ◌/◌, ◌≤◌, ◌<◌, ◌^◌, min, length};
@@ -124,6 +126,7 @@ pub fn step(g: &Given, rooms: &mut Rooms, st: St) -> St
     ensures steps { (C : Call) → Serves C g.now → world_of rooms.new result ≡ step C (world_of rooms.old st) }
 {
     let s = counted(st);
+    // Lent by a name first: of a field that is passed on as a slice itself, the proof knows only the length.
     let stack = &mut *rooms.stack;
     let scratch = &mut *rooms.scratch;
     let act = decide(g, stack, scratch, s, st.mode);

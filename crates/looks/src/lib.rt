@@ -76,7 +76,7 @@ fn root_at(stack: &[u8], height: usize) -> u32
     symbol_at(stack, height - 1).node
 }
 
-// At the end of input, `parse_eof` of the Rust, a shift is no shift.
+// At the end of input, `parse_eof` of the Rust, a shift is no shift. A test and no `match` on `lookahead`: `Sure` speaks of the count.
 #[tactic(auto, using(moves::specs::Serving::has_token_law, moves::specs::Serving::no_token_law), unfolding(model::specs::Model::main_look, crate::specs::Deciding::on_act))]
 fn main_shift(g: &Given, st: St, to: StateNo) -> Act
     ensures sure { Sure g.now st result }
