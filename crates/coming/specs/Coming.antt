@@ -15,9 +15,14 @@ unfoldable pub comes_from : Tables → ℕ → ℕ → ℕ → ℕ → ℕ → B
 comes_from T s p d B r =
     all_below (symbol_count T) (λ X. not (goes_to (move T r X) s) || (eqb X B && has_item T r p d))
 
-pub comes_from_all : (T : Tables) (s p d : ℕ) → all_below (states T) (comes_from T s p d (symbol T p d)) ≡ comes_well T s p d
-unfolding comes_well comes_from
-comes_from_all T s p d = refl
+-- and that of every state
+unfoldable pub comes_in : Tables → ℕ → ℕ → ℕ → ℕ → Bool
+comes_in T s p d B = all_below (states T) (comes_from T s p d B)
+
+-- with the symbol before the dot it is the rules' own
+pub comes_in_law : (T : Tables) (s p d : ℕ) → comes_in T s p d (symbol T p d) ≡ comes_well T s p d
+unfolding comes_in comes_well comes_from
+comes_in_law T s p d = refl
 
 -- ---- "dot > 0 in state 0; production 0 at dot 0 elsewhere; or dot d > 0 and .."
 

@@ -31,7 +31,7 @@ behind_of r = behind r.t.now r.from r.n r.lookahead
 
 -- the place is not too far, and whether the symbols can all be nothing is the rules'
 pub record RestRead (r : Inside) : Type 0 where
-  pub near : r.from < 2 ^ 61
+  pub near : r.from + r.n < 2 ^ 62
   pub empty_read : r.empty ≡ all_nullable r.t.now (symbols_in r.t.now.rights r.from r.n)
 
 -- what stands behind the symbol behind the dot

@@ -1,7 +1,7 @@
 // Test 17: "an item lacks its follow-up"; place "item count where (0, 0, 0, end) is missing, tested last".
 #![tactic(auto)]
 
-ghost use Rattle.std.specs.Prelude.{◌≡◌, ◌<◌, ◌^◌};
+ghost use Rattle.std.specs.Prelude.{◌≡◌, ◌+◌, ◌<◌, ◌^◌};
 ghost use Rattle.rules.specs.Tables.{is_shift, size};
 ghost use Rattle.rules.specs.Check.{moves_on, follows_symbol, reduces, has_goto, follow_ups, ok17};
 ghost use Rattle.tables.specs.Places.{found};
@@ -20,9 +20,9 @@ use tables::{Item, Tables};
 struct Rest<'a> {
     t: &'a Tables<'a>,
     from: usize,
-    n: u32,
+    n: usize,
     empty: bool,
-    lookahead: u32,
+    lookahead: usize,
 }
 
 impl<'a> Model for Rest<'a> {
@@ -39,8 +39,8 @@ impl<'a> Rest<'a> {
     ghost use Rattle.rules.specs.Check.{can_begin, opens};
     ghost use Rattle.following.specs.Following.{behind, opens_each};
 
-    fn new(t: &'a Tables<'a>, from: usize, n: u32, lookahead: u32) -> Rest<'a>
-        requires { from < 2 ^ 61 }
+    fn new(t: &'a Tables<'a>, from: usize, n: usize, lookahead: usize) -> Rest<'a>
+        requires { from + n < 2 ^ 62 }
         ensures { result ≡ behind t.now from n lookahead }
     {
         Rest {
@@ -54,7 +54,7 @@ impl<'a> Rest<'a> {
 
     // Can b begin "what follows B and then a, by the given sets"?
     #[tactic(auto, unfolding(rules::specs::Check::can_begin))]
-    fn can_begin(&self, b: u32) -> bool
+    fn can_begin(&self, b: usize) -> bool
         ensures { result ≡ can_begin self.now.tables self.now.symbols self.now.lookahead b }
     {
         self.t.begins_with(self.from, self.n, b) | (self.empty & (b == self.lookahead))
@@ -62,7 +62,7 @@ impl<'a> Rest<'a> {
 
     // "s also has (q, 0, b) for .. each b that can begin what follows B and then a". The lookup goes through the items, so it is made
     // only of such a b.
-    fn opens_each(&self, state: u32, q: u32) -> bool
+    fn opens_each(&self, state: usize, q: usize) -> bool
         ensures { result ≡ opens_each self.now state q }
     {
         let t = self.t;
@@ -72,7 +72,7 @@ impl<'a> Rest<'a> {
     }
 
     // "Before nonterminal B": that "for each production q of B"
-    fn opens(&self, state: u32, nonterminal: u32) -> bool
+    fn opens(&self, state: usize, nonterminal: usize) -> bool
         ensures { result ≡ opens self.now.tables state nonterminal self.now.symbols self.now.lookahead }
     {
         let t = self.t;
@@ -90,10 +90,10 @@ fn moves_on(t: &Tables, cell: Cell, x: Item) -> bool
     match cell {
         Cell::Shift(to) => has_item(
             t,
-            to.0,
-            x.production as u32,
-            x.dot as u32 + 1,
-            Some(x.lookahead as u32),
+            to.0 as usize,
+            x.production as usize,
+            x.dot as usize + 1,
+            Some(x.lookahead as usize),
         ),
         Cell::Reduce(_) | Cell::Error => false,
     }
@@ -105,23 +105,23 @@ fn follows_symbol(t: &Tables, x: Item) -> bool
     requires { x.dot < size t.now x.production }
     ensures { result ≡ follows_symbol t.now x.state x.production x.dot x.lookahead }
 {
-    let state = x.state as u32;
-    let production = x.production as u32;
+    let state = x.state as usize;
+    let production = x.production as usize;
     let kinds = t.kinds();
     let at = t.right_start(production) + x.dot as usize;
     let symbol = t.symbol_at(at);
-    let n = t.size(production) - (x.dot as u32 + 1);
+    let n = t.size(production) - (x.dot as usize + 1);
     moves_on(t, t.transition(state, symbol), x)
         && (symbol <= kinds
-            || Rest::new(t, at + 1, n, x.lookahead as u32).opens(state, symbol - (kinds + 1)))
+            || Rest::new(t, at + 1, n, x.lookahead as usize).opens(state, symbol - (kinds + 1)))
 }
 
 // "At the end: cell (s, a) reduces p."
 #[tactic(auto, unfolding(rules::specs::Check::reduces))]
-fn reduces(cell: Cell, production: u32) -> bool
+fn reduces(cell: Cell, production: usize) -> bool
     ensures { result ≡ reduces cell production }
 {
-    matches!(cell, Cell::Reduce(p) if p.0 == production)
+    matches!(cell, Cell::Reduce(p) if p.0 as usize == production)
 }
 
 fn is_shift(cell: Cell) -> bool
@@ -135,8 +135,8 @@ fn is_shift(cell: Cell) -> bool
 fn has_goto(t: &Tables, x: Item) -> bool
     ensures { result ≡ has_goto t.now x.state x.production x.dot }
 {
-    let side = t.left(x.production as u32);
-    (x.dot != 0) | (x.production == 0) | is_shift(t.goto(x.state as u32, side))
+    let side = t.left(x.production as usize);
+    (x.dot != 0) | (x.production == 0) | is_shift(t.goto(x.state as usize, side))
 }
 
 // "Follow-ups of (s, p, d, a)."
@@ -144,18 +144,19 @@ fn has_goto(t: &Tables, x: Item) -> bool
 fn follow_ups(t: &Tables, x: Item) -> bool
     ensures { result ≡ follow_ups t.now x.state x.production x.dot x.lookahead }
 {
-    let production = x.production as u32;
-    let follows = if (x.dot as u32) < t.size(production) {
+    let production = x.production as usize;
+    let follows = if (x.dot as usize) < t.size(production) {
         follows_symbol(t, x)
     } else {
-        reduces(t.action(x.state as u32, x.lookahead as u32), production)
+        reduces(t.action(x.state as usize, x.lookahead as usize), production)
     };
     follows & has_goto(t, x)
 }
 
 // 17 at a place: an item, or the item count.
 #[tactic(auto, unfolding(rules::specs::Check::ok17, items::specs::Lookup::has_item_with))]
-fn fits_at(t: &Tables, i: u32) -> bool
+fn fits_at(t: &Tables, i: usize) -> bool
+    requires { i < 2 ^ 40 }
     ensures { result ≡ ok17 t.now i }
 {
     if i < t.item_count() {

@@ -2,7 +2,7 @@
 // test 16 of the check.
 #![tactic(auto)]
 
-ghost use Rattle.std.specs.Prelude.{◌≡◌};
+ghost use Rattle.std.specs.Prelude.{◌≡◌, ◌<◌, ◌^◌};
 ghost use Rattle.rules.specs.Check.{is_at};
 ghost use Rattle.tables.specs.Lent.{item_of};
 ghost use Rattle.items.specs.Lookup.{has_item_with, repeats};
@@ -14,29 +14,36 @@ pub mod reducing;
 
 // Is this an item of this state, production and dot?
 #[tactic(auto, unfolding(rules::specs::Check::is_at))]
-fn is_at(item: Item, state: u32, production: u32, dot: u32) -> bool
+fn is_at(item: Item, state: usize, production: usize, dot: usize) -> bool
     ensures { result ≡ is_at state production dot (item_of item) }
 {
-    item.state as u32 == state && item.production as u32 == production && item.dot as u32 == dot
+    item.state as usize == state && item.production as usize == production && item.dot as usize == dot
 }
 
 // Is there an item of this state, production and dot: with this lookahead, or where none is asked for with any? The one lookup: a
 // scan from the front.
-pub fn has_item(t: &Tables, state: u32, production: u32, dot: u32, lookahead: Option<u32>) -> bool
+pub fn has_item(
+    t: &Tables,
+    state: usize,
+    production: usize,
+    dot: usize,
+    lookahead: Option<usize>,
+) -> bool
     ensures { result ≡ has_item_with t.now state production dot lookahead }
 {
     match lookahead {
         None => any_below(t.item_count(), |i| is_at(t.item(i), state, production, dot)),
         Some(a) => any_below(t.item_count(), |i| {
             let item = t.item(i);
-            is_at(item, state, production, dot) && item.lookahead as u32 == a
+            is_at(item, state, production, dot) && item.lookahead as usize == a
         }),
     }
 }
 
 // Has item i the state, production and dot of the item before it?
 #[tactic(auto, using(crate::specs::Lookup::first_new, crate::specs::Lookup::later_repeats))]
-pub fn repeats(t: &Tables, i: u32) -> bool
+pub fn repeats(t: &Tables, i: usize) -> bool
+    requires { i < 2 ^ 40 }
     ensures { result ≡ repeats t.now i }
 {
     let Some(last) = i.checked_sub(1) else {
@@ -45,8 +52,8 @@ pub fn repeats(t: &Tables, i: u32) -> bool
     let before = t.item(last);
     is_at(
         t.item(i),
-        before.state as u32,
-        before.production as u32,
-        before.dot as u32,
+        before.state as usize,
+        before.production as usize,
+        before.dot as usize,
     )
 }

@@ -10,11 +10,14 @@ use tables::scans::first_bad;
 
 // 16 of a cell in a state's row.
 #[tactic(auto, unfolding(rules::specs::Check::reduce_fits, crate::specs::Lookup::has_item_with))]
-fn reduce_fits(t: &Tables, state: u32, cell: Cell) -> bool
+fn reduce_fits(t: &Tables, state: usize, cell: Cell) -> bool
     ensures { result ≡ reduce_fits t.now state cell }
 {
     match cell {
-        Cell::Reduce(p) => has_item(t, state, p.0, t.size(p.0), None),
+        Cell::Reduce(p) => {
+            let production = p.0 as usize;
+            has_item(t, state, production, t.size(production), None)
+        }
         Cell::Shift(_) | Cell::Error => true,
     }
 }
