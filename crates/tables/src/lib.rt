@@ -76,6 +76,7 @@ pub struct Item {
 }
 
 // The tables of a call: its seven slices in the file's order, and the numbers that stand in the first of them, read once.
+#[derive(Drop)]
 pub struct Tables<'a> {
     sizes: &'a [u8],
     actions: &'a [u8],
@@ -304,6 +305,14 @@ impl<'a> Tables<'a> {
             dot: word16(self.items, at + 4),
             lookahead: word16(self.items, at + 6),
         }
+    }
+
+    // Its state alone: a scan for the items of a state reads no more of the others.
+    #[tactic(auto, unfolding(rules::specs::Tables::item_at))]
+    pub fn item_state(&self, i: u32) -> u16
+        ensures { result ≡ (item_at self.now i).state }
+    {
+        word16(self.items, 8 * i as usize)
     }
 
     // "A first set: nullable flag, then 32 bytes, kind k at bit k mod 8 of byte k/8."
