@@ -6,7 +6,7 @@ use borrow.Author.Tests.{eq-eqb, ne_eqb}
 use Rattle.std.proofs.Math.Dec.{eqb}
 use Rattle.rules.specs.Tables.{Tables, Item, item_at}
 use Rattle.rules.specs.Check.{is_at, has_item, has_item_for}
-use Rattle.tables.specs.Fit.{and_left, and_right}
+use Rattle.std.proofs.lemmas.Bool.{and_parts}
 
 -- is there an item of this state, production and dot: with any lookahead, or with this one
 unfoldable pub has_item_with : Tables → ℕ → ℕ → ℕ → Option ℕ → Bool
@@ -48,5 +48,5 @@ module _ (s p d n : ℕ) (y : Item) (e : n ≡ y.state) where
 pub same_place : (s p d : ℕ) (x : Item) → is_at s p d x ≡ true → (x.state ≡ s) × (x.production ≡ p) × (x.dot ≡ d)
 unfolding is_at
 same_place s p d x h =
-    let two = and_left (eqb x.state s && eqb x.production p) (eqb x.dot d) h in
-    (eqb-true _ _ (and_left (eqb x.state s) (eqb x.production p) two), eqb-true _ _ (and_right (eqb x.state s) (eqb x.production p) two), eqb-true _ _ (and_right (eqb x.state s && eqb x.production p) (eqb x.dot d) h))
+    let a = and_parts (eqb x.state s && eqb x.production p) (eqb x.dot d) h in
+    let b = and_parts (eqb x.state s) (eqb x.production p) a.0 in (eqb-true _ _ b.0, eqb-true _ _ b.1, eqb-true _ _ a.1)
