@@ -3,21 +3,25 @@
 #![tactic(auto)]
 
 ghost use Rattle.std.specs.Prelude.{◌≡◌, ◌<◌, ◌^◌};
+ghost use Rattle.rules.specs.Tables.{item_at};
 ghost use Rattle.rules.specs.Check.{is_at};
-ghost use Rattle.tables.specs.Lent.{item_of};
 ghost use Rattle.items.specs.Lookup.{has_item_with, repeats};
 
+use tables::Tables;
 use tables::scans::any_below;
-use tables::{Item, Tables};
 
 pub mod reducing;
 
-// Is this an item of this state, production and dot?
-#[tactic(auto, unfolding(rules::specs::Check::is_at))]
-fn is_at(item: Item, state: usize, production: usize, dot: usize) -> bool
-    ensures { result ≡ is_at state production dot (item_of item) }
+// Is item i of this state, production and dot? Its state is read alone first: most items that a scan passes are of another.
+fn is_at(t: &Tables, i: usize, state: usize, production: usize, dot: usize) -> bool
+    requires { i < 2 ^ 40 }
+    ensures { result ≡ is_at state production dot (item_at t.now i) }
 {
-    item.state as usize == state && item.production as usize == production && item.dot as usize == dot
+    if t.item_state(i) as usize != state {
+        return false;
+    }
+    let item = t.item(i);
+    item.production as usize == production && item.dot as usize == dot
 }
 
 // Is there an item of this state, production and dot: with this lookahead, or where none is asked for with any? The one lookup: a
@@ -32,10 +36,9 @@ pub fn has_item(
     ensures { result ≡ has_item_with t.now state production dot lookahead }
 {
     match lookahead {
-        None => any_below(t.item_count(), |i| is_at(t.item(i), state, production, dot)),
+        None => any_below(t.item_count(), |i| is_at(t, i, state, production, dot)),
         Some(a) => any_below(t.item_count(), |i| {
-            let item = t.item(i);
-            is_at(item, state, production, dot) && item.lookahead as usize == a
+            is_at(t, i, state, production, dot) && t.item(i).lookahead as usize == a
         }),
     }
 }
@@ -51,7 +54,8 @@ pub fn repeats(t: &Tables, i: usize) -> bool
     };
     let before = t.item(last);
     is_at(
-        t.item(i),
+        t,
+        i,
         before.state as usize,
         before.production as usize,
         before.dot as usize,

@@ -326,6 +326,15 @@ impl<'a> Tables<'a> {
         }
     }
 
+    // Its state alone: a scan for the items of a state reads no more of the others.
+    #[tactic(auto, unfolding(rules::specs::Tables::item_at))]
+    pub fn item_state(&self, i: usize) -> u16
+        requires { i < 2 ^ 40 }
+        ensures { result ≡ (item_at self.now i).state }
+    {
+        u16::word(self.items, 8 * i)
+    }
+
     // "A first set: nullable flag, then 32 bytes, kind k at bit k mod 8 of byte k/8."
     #[tactic(auto, unfolding(rules::specs::Tables::nullable_byte))]
     pub fn nullable_byte(&self, nonterminal: usize) -> u8
