@@ -9,7 +9,7 @@ pub loop-i-init : goal.loop-i-init
 loop-i-init c = left_all _ _ _ (words_all _ _)
 
 pub loop-i-preserved : goal.loop-i-preserved
-loop-i-preserved c = left_turn _ _ _ _ _ _ _ (words_turn _ _ c.loop-i.i (omega arith)) (rw c.word.ensures at c.word.ensures) c.loop-i.invariant
+loop-i-preserved c = left_turn _ _ _ _ _ _ _ (words_turn _ _ c.loop-i.i (omega arith)) (rw c.word.ensures at c.word-in-loop-i.ensures) c.loop-i.invariant
 
 pub returns : goal.returns
 returns c = left_none _ _ _ _ (words_none _ _ c.loop-i.i (omega arith)) c.loop-i.invariant
