@@ -18,7 +18,10 @@ pub fn production_closed(t: &Tables, p: usize, start: usize) -> bool
     let side = kinds + 1 + t.left(p);
     let n = t.size(p);
     (!t.all_nullable(start, n) | t.nullable(side))
-        & all_below(kinds + 1, |k| !t.begins_with(start, n, k) | t.in_first(side, k))
+        & all_below(
+            kinds + 1,
+            |k| !t.begins_with(start, n, k) | t.in_first(side, k),
+        )
 }
 
 pub fn scan13(t: &Tables) -> Option<u32>

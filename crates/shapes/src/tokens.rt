@@ -11,7 +11,5 @@ pub fn tokens_fit(tokens: &[u8]) -> bool
     ensures { result ≡ ok18 tokens.now }
 {
     let n = tokens.len() / 12;
-    tokens.len() % 12 == 0
-        && n <= 4096
-        && all_below(n, |i| u32::word(tokens, 12 * i) <= 65535)
+    tokens.len() % 12 == 0 && n <= 4096 && all_below(n, |i| u32::word(tokens, 12 * i) <= 65535)
 }
