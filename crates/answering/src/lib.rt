@@ -34,7 +34,8 @@ fn refuse(out: &mut [u8], number: usize, place: usize) -> usize
 }
 
 // The lines of a reply, by what a call returned and left. A refusal touches no room, so a report whose first word was 0 still has it;
-// an answer's report begins with its number, which is not 0.
+// an answer's report begins with its number, which is not 0. So the report tells which it is; what the call returned would need the list
+// of the answers' numbers again.
 fn tell(returned: Returned, productions: &[u8], rooms: &Rooms, out: &mut [u8]) -> usize {
     let Returned { number, value } = returned;
     let Rooms {

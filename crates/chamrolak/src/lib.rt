@@ -1,5 +1,6 @@
 // The calls of the viewer's C host. None asks anything of its caller: each says what it returns, and what every lent room then holds,
-// for all input. The crate chamrolak_c exports them, and include/chamrolak.h has them for C.
+// for all input. The crate chamrolak_c exports them, and include/chamrolak.h has them for C: their parameters are C's, slice by slice, and
+// `Tables`, `Given` and `Rooms` are made of them here.
 #![tactic(auto)]
 
 ghost use Rattle.std.specs.Prelude.{Err, List, ◌≡◌, ℕ, length};

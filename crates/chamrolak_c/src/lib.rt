@@ -1,4 +1,4 @@
-// The calls of crate chamrolak under their C names: each export is the call, with the same clauses. include/chamrolak.h has them for C.
+// The calls of crate chamrolak under their C names, with C's parameters: each export is the call, with the same clauses. include/chamrolak.h has them for C.
 #![tactic(auto)]
 
 ghost use Rattle.std.specs.Prelude.{◌≡◌, List, ℕ};

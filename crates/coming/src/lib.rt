@@ -17,10 +17,7 @@ use tables::scans::{all_below, first_bad};
 pub fn goes_to(cell: Cell, state: usize) -> bool
     ensures { result ≡ goes_to cell state }
 {
-    match cell {
-        Cell::Shift(to) => to.0 as usize == state,
-        Cell::Reduce(_) | Cell::Error => false,
-    }
+    matches!(cell, Cell::Shift(to) if to.0 as usize == state)
 }
 
 // Does every transition from one state that enters the item's come over the symbol before the dot, and from a state with an item of
@@ -38,7 +35,7 @@ fn comes_from(
     let symbols = t.kinds() + 1 + t.nonterminals();
     all_below(symbols, |over| {
         !goes_to(t.transition(from, over), state)
-            || over == before && has_item(t, from, production, dot, None)
+            || (over == before && has_item(t, from, production, dot, None))
     })
 }
 

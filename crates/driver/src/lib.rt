@@ -95,8 +95,8 @@ fn fail_now(g: &Given, stack: &[u8], st: St) -> St
     fail(g, st, formed_at(g, stack, st))
 }
 
-// What a look decided is done. An enum with one `match`, and no closure handed on: each act has one place, so that the whole step is
-// one function of the machine's code, on which the ratio of speed rests (docs/DECISIONS.md, "Each act of the driver has one call site").
+// What a look decided is done. An enum with one `match`, which is no longer than closures would be and hands none on: each act has one
+// place, so that the whole step is one function of the machine's code (docs/DECISIONS.md, "Each act of the driver has one call site").
 #[tactic(auto, unfolding(looks::specs::Deciding::on_act))]
 fn perform(g: &Given, rooms: &mut Rooms, st: St, act: Act) -> St
     requires { Safe g.now rooms.old.stack.now st × (4 * g.now.depth ≤ length rooms.old.scratch.now) ×

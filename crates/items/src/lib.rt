@@ -25,7 +25,7 @@ fn is_at(t: &Tables, i: usize, state: usize, production: usize, dot: usize) -> b
 }
 
 // Is there an item of this state, production and dot: with this lookahead, or where none is asked for with any? The one lookup: a
-// scan from the front.
+// scan from the front. State, production and dot stand singly here and in 15, as in the rules' definitions that the contracts cite.
 pub fn has_item(
     t: &Tables,
     state: usize,

@@ -233,7 +233,7 @@ pub fn simulate_look(g: &Given, stack: &[u8], scratch: &[u8], st: St) -> Act
     }
 }
 
-// What a look decides in the mode that the run is in.
+// What a look decides in the mode that the run is in. A `match`: a table of functions or closures would say no more and be no shorter.
 #[tactic(auto, unfolding(model::specs::Model::look, crate::specs::Deciding::on_act))]
 pub fn decide(g: &Given, stack: &[u8], scratch: &[u8], st: St, mode: Mode) -> Act
     requires { Safe g.now stack.now st × Simulable (length stack.now)

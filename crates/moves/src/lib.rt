@@ -15,7 +15,8 @@ use rooms::{token_at, top_at};
 use rules::{Answer, Formed, StateNo, Token};
 
 // A call, but for its rooms: the tables' slices and sizes, whether the flag is 1, the tokens and how many they are, the start
-// location and the depth that fits.
+// location and the depth that fits. The numbers stand beside the slices, since `Reads`, `Goes` and `Acts` speak of a call's own numbers, and
+// `arrive` and `driver::begin` take any: so what bounds them, like a state's `next`, stays a clause.
 #[derive(Clone, Copy)]
 pub struct Given<'a> {
     pub actions: &'a [u8],

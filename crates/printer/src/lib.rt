@@ -41,6 +41,7 @@ pub struct Answer<'a> {
     pub count: u32,
 }
 
+// Numbers of document 01 stay numbers in these methods too: they are printed as they are, and the clauses hold for every one.
 impl<'a> Page<'a> {
     // a page with no text yet, from the front of the buffer on
     pub fn new(buf: &'a mut [u8]) -> Page<'a>

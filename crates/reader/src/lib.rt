@@ -1,4 +1,4 @@
-// "The file": from the bytes of a file to the places of its eight payloads, or its refusal 30 to 33 with its place. Payloads are
+// "The file": from the bytes of a file to its eight payloads, or its refusal 30 to 33 with its place. Payloads are
 // handed on as parts of the input; nothing is copied.
 #![tactic(auto)]
 
@@ -40,7 +40,7 @@ pub enum Refusal {
 }
 
 impl Refusal {
-    // Its number in document 01.
+    // Its number in document 01: a method and no `From`, since `filed_of` cites it by name.
     pub fn number(self) -> usize
         ensures { result ≡ number_of self }
     {

@@ -77,7 +77,7 @@ pub fn expected_of(actions: Actions, answer: Answer) -> [u32; 8]
     }
 }
 
-// The report, 16 words.
+// The report, 16 words. The four counts are single numbers: they travel together here alone.
 pub fn put_report(
     actions: Actions,
     report: &mut [u8],

@@ -32,7 +32,8 @@ pub fn put_words<const N: usize>(s: &mut [u8], at: usize, words: [u32; N])
     }
 }
 
-// "kind (0 token, 1 mark, 2 production), number (of that token, record or production)"
+// "kind (0 token, 1 mark, 2 production), number (of that token, record or production)". Functions and no `From`, which would have to
+// stand in `rules`, and that has no functions.
 pub fn kind_of(w: What) -> u32
     ensures { result ≡ kind_of w }
 {
@@ -72,6 +73,7 @@ pub fn put_entry(s: &mut [u8], i: usize, e: Entry)
     );
 }
 
+// Nodes name their children by index, and no `Box`: the host lends the rooms and reads them by document 01's words.
 // "Node, 8 words: kind .., number .., first child entry, child count, start, end, first token, token after the last."
 pub fn put_node(s: &mut [u8], i: usize, e: Entry, child: u32, count: u32)
     requires { 32 * i + 32 ≤ length s.old }

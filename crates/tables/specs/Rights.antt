@@ -81,10 +81,6 @@ pub begins_none : (T : Tables) (rights : List ℕ) (at n k : ℕ) → n ≡ 0 �
 unfolding begins_with symbols_in
 begins_none T rights at n k h = rw h
 
--- where such a loop begins
-pub symbols_all : (rights : List ℕ) (at n : ℕ) → symbols_in rights (at + 0) (n - 0) ≡ symbols_in rights at n
-symbols_all rights at n = let e : at + 0 ≡ at = omega arith in let f : n - 0 ≡ n = omega arith in rw (e, f)
-
 -- ---- the rules' right sides
 
 pub symbol_in_law : (T : Tables) (p d : ℕ) → symbol T p d ≡ symbol_in T.rights (right_start T p + d)

@@ -35,7 +35,8 @@ pub fn cell_in(table: &[u8], rows: usize, width: usize, row: usize, column: usiz
     cell_at(table, row * width + column)
 }
 
-// "productions (left side, length)": the left side of a production
+// "productions (left side, length)": the left side of a production. This and the next stand beside the methods of `Tables` for the driver,
+// whose call holds no right sides, items and sets.
 pub fn left(productions: &[u8], production: usize) -> usize
     requires { production < 2 ^ 40 }
     ensures { result ≡ word16 productions.now (4 * production) }
@@ -87,7 +88,8 @@ pub struct Lengths {
     pub sets: usize,
 }
 
-// The tables of a call: its seven slices in the file's order, and the numbers that stand in the first of them, read once.
+// The tables of a call: its seven slices in the file's order, and the numbers that stand in the first of them, but for the flag, read
+// once.
 #[derive(Drop)]
 pub struct Tables<'a> {
     sizes: &'a [u8],
@@ -124,6 +126,7 @@ impl<'a> Tables<'a> {
     ghost use Rattle.tables.specs.Rights.{symbol_in, symbols_in};
     ghost use Rattle.tables.specs.Lent.{item_of, lengths_of};
 
+    // Seven parameters: the call's slices, as C lends them, become one value here.
     pub fn new(
         sizes: &'a [u8],
         actions: &'a [u8],
@@ -156,35 +159,35 @@ impl<'a> Tables<'a> {
         ensures value { result ≡ states self.now }
         ensures bound { result < 2 ^ 16 }
     {
-        self.states as usize
+        usize::from(self.states)
     }
 
     pub fn kinds(&self) -> usize
         ensures value { result ≡ kinds self.now }
         ensures bound { result < 2 ^ 16 }
     {
-        self.kinds as usize
+        usize::from(self.kinds)
     }
 
     pub fn nonterminals(&self) -> usize
         ensures value { result ≡ nonterminals self.now }
         ensures bound { result < 2 ^ 16 }
     {
-        self.nonterminals as usize
+        usize::from(self.nonterminals)
     }
 
     pub fn production_count(&self) -> usize
         ensures value { result ≡ production_count self.now }
         ensures bound { result < 2 ^ 16 }
     {
-        self.production_count as usize
+        usize::from(self.production_count)
     }
 
     pub fn item_count(&self) -> usize
         ensures value { result ≡ item_count self.now }
         ensures bound { result < 2 ^ 16 }
     {
-        self.item_count as usize
+        usize::from(self.item_count)
     }
 
     #[tactic(auto, unfolding(rules::specs::Tables::flag))]
@@ -379,7 +382,8 @@ impl<'a> Tables<'a> {
         }
     }
 
-    // Whether the n symbols from a place on can all be nothing.
+    // Whether the n symbols from a place on can all be nothing. A loop and no `all_below`, as in `begins_with`: the rules' definitions go
+    // down the list of symbols, and what is left of it is what these loops keep.
     pub fn all_nullable(&self, from: usize, n: usize) -> bool
         requires { from + n < 2 ^ 62 }
         ensures { result ≡ all_nullable self.now (symbols_in self.now.rights from n) }

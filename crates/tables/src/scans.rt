@@ -1,5 +1,6 @@
 // The form of the check's tests, over a test of a number as a parameter: the first place at which it is false, and whether it holds
-// of every number below a bound, or of some.
+// of every number below a bound, or of some. `position`, `all` and `any` of a range would do the same; these have the rules' definitions
+// in their contracts, so that a caller's answer only names the test.
 ghost use Rattle.std.specs.Prelude.{ℕ, Bool, ◌≡◌, ◌<◌, ◌^◌};
 ghost use Rattle.rules.specs.Basics.{all_below, any_below};
 ghost use Rattle.tables.specs.Places.{first_bad};
