@@ -7,7 +7,7 @@ ghost use Rattle.tables.specs.Places.{found};
 ghost use Rattle.shapes.specs.Productions.{production_closed};
 
 use tables::Tables;
-use tables::scans::{all_below, first_bad};
+use tables::scans::{all_below, first_bad_production};
 
 // The test at a production whose right side starts at that place, for every kind of "kinds 0..t".
 pub fn production_closed(t: &Tables, p: usize, start: usize) -> bool
@@ -17,18 +17,15 @@ pub fn production_closed(t: &Tables, p: usize, start: usize) -> bool
     let kinds = t.kinds();
     let side = kinds + 1 + t.left(p);
     let n = t.size(p);
-    (!t.all_nullable(start, n) | t.nullable(side))
-        & all_below(
-            kinds + 1,
-            |k| !t.begins_with(start, n, k) | t.in_first(side, k),
-        )
+    let flag = !t.all_nullable(start, n) || t.nullable(side);
+    flag && all_below(
+        kinds + 1,
+        |k| !t.begins_with(start, n, k) || t.in_first(side, k),
+    )
 }
 
 pub fn scan13(t: &Tables) -> Option<u32>
     ensures { result ≡ found ok13 production_count t.now }
 {
-    first_bad(
-        t.production_count(),
-        |p| production_closed(t, p, t.right_start(p)),
-    )
+    first_bad_production(t, |p, start| production_closed(t, p, start))
 }

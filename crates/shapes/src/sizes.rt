@@ -22,14 +22,14 @@ fn sizes_fit(t: &Tables) -> bool
     ensures { result ≡ sizes_fit t.now }
 {
     between(1, 1024, t.states())
-        & between(1, 254, t.kinds())
-        & between(1, 255, t.nonterminals())
-        & between(1, 1024, t.production_count())
-        & (t.item_count() <= 65535)
-        & (t.flag() <= 1)
+        && between(1, 254, t.kinds())
+        && between(1, 255, t.nonterminals())
+        && between(1, 1024, t.production_count())
+        && t.item_count() <= 65535
+        && t.flag() <= 1
 }
 
-// Every length, in bytes, and "each right side 0 to 32 symbols".
+// Every length, in bytes, and "each right side 0 to 32 symbols". The right sides are added up only where each is short.
 fn lengths_agree(t: &Tables) -> bool
     ensures { result ≡ lengths_agree t.now }
 {
@@ -37,11 +37,16 @@ fn lengths_agree(t: &Tables) -> bool
     let nonterminals = t.nonterminals();
     let count = t.production_count();
     let found = t.lengths();
-    (found.actions == 2 * (states * (t.kinds() + 2)))
+    let tables = (found.actions == 2 * (states * (t.kinds() + 2)))
         & (found.gotos == 2 * (states * nonterminals))
-        & (found.productions == 4 * count)
-        & all_below(count, |p| t.size(p) <= 32)
-        & (found.rights == 2 * t.right_start(count))
+        & (found.productions == 4 * count);
+    if !tables {
+        return false;
+    }
+    if !all_below(count, |p| t.size(p) <= 32) {
+        return false;
+    }
+    (found.rights == 2 * t.right_start(count))
         & (found.items == 8 * t.item_count())
         & (found.sets == 33 * nonterminals)
 }
@@ -53,16 +58,21 @@ fn set_fits(t: &Tables, nonterminal: usize) -> bool
     ensures { result ≡ set_fits t.now nonterminal }
 {
     let kinds = t.kinds();
-    (t.nullable_byte(nonterminal) <= 1)
-        & all_below(256, |kind| (kind <= kinds) | !t.in_set(nonterminal, kind))
+    t.nullable_byte(nonterminal) <= 1
+        && all_below(256, |kind| kind <= kinds || !t.in_set(nonterminal, kind))
 }
 
 // The test.
 pub fn fits(t: &Tables) -> bool
     ensures { result ≡ ok10 t.now 0 }
 {
-    let numbers = t.lengths().sizes == 12;
-    if !(numbers & sizes_fit(t) & lengths_agree(t)) {
+    if t.lengths().sizes != 12 {
+        return false;
+    }
+    if !sizes_fit(t) {
+        return false;
+    }
+    if !lengths_agree(t) {
         return false;
     }
     all_below(t.nonterminals(), |j| set_fits(t, j))

@@ -7,7 +7,7 @@ ghost use Rattle.tables.specs.Places.{found};
 ghost use Rattle.shapes.specs.Productions.{left_allowed, production_allowed};
 
 use tables::Tables;
-use tables::scans::{all_below, first_bad};
+use tables::scans::{all_below, first_bad_production};
 
 fn symbol_fits(t: &Tables, x: usize) -> bool
     ensures { result ≡ symbol_fits t.now x }
@@ -35,14 +35,11 @@ pub fn production_allowed(t: &Tables, p: usize, start: usize) -> bool
     ensures { result ≡ production_allowed t.now p start }
 {
     left_fits(t, p, t.symbol_at(start))
-        & all_below(t.size(p), |d| symbol_fits(t, t.symbol_at(start + d)))
+        && all_below(t.size(p), |d| symbol_fits(t, t.symbol_at(start + d)))
 }
 
 pub fn scan12(t: &Tables) -> Option<u32>
     ensures { result ≡ found ok12 production_count t.now }
 {
-    first_bad(
-        t.production_count(),
-        |p| production_allowed(t, p, t.right_start(p)),
-    )
+    first_bad_production(t, |p, start| production_allowed(t, p, start))
 }

@@ -3,7 +3,10 @@
 // in their contracts, so that a caller's answer only names the test.
 ghost use Rattle.std.specs.Prelude.{ℕ, Bool, ◌≡◌, ◌<◌, ◌^◌};
 ghost use Rattle.rules.specs.Basics.{all_below, any_below};
+ghost use Rattle.rules.specs.Tables.{production_count, right_start};
 ghost use Rattle.tables.specs.Places.{first_bad};
+
+use crate::Tables;
 
 // "lowest place first": the first of the n places at which the test is false.
 pub fn first_bad<F: Fn(usize) -> bool>(n: usize, fits: F) -> Option<u32>
@@ -15,6 +18,21 @@ pub fn first_bad<F: Fn(usize) -> bool>(n: usize, fits: F) -> Option<u32>
         if !fits(i) {
             return Some(i as u32);
         }
+    }
+    None
+}
+
+// The same of the productions, each with the place at which its right side starts: the scan carries it from one to the next.
+pub fn first_bad_production<F: Fn(usize, usize) -> bool>(t: &Tables, fits: F) -> Option<u32>
+    requires callable { (p : ℕ) → p < production_count t.now → p < 2 ^ 16 → right_start t.now p < 2 ^ 32 → F.pre fits p (right_start t.now p) }
+    ensures { (ok : ℕ → Bool) → ((p : ℕ) (b : Bool) → p < production_count t.now → F.post fits p (right_start t.now p) b → b ≡ ok p) → result ≡ first_bad ok 0 (production_count t.now) }
+{
+    let mut start = 0;
+    for p in 0..t.production_count() {
+        if !fits(p, start) {
+            return Some(p as u32);
+        }
+        start += t.size(p);
     }
     None
 }

@@ -6,4 +6,4 @@ use Rattle.shapes.specs.Productions.{closed_same}
 use Rattle.shapes.proofs.closed.scan13.Goals as goal
 
 pub returns : goal.returns
-returns c = rw (← c.production_count.ensures.value) (c.first_bad.ensures (ok13 c.args.t.now) (λ i b h e. rw (← closed_same c.args.t.now i) (search rules)))
+returns c = c.first_bad_production.ensures (ok13 c.args.t.now) (λ p b h e. rw (← closed_same c.args.t.now p) (search rules))
