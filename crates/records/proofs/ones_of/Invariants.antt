@@ -5,4 +5,4 @@ use Rattle.rules.specs.Answers.{ones_of}
 use Rattle.records.proofs.ones_of.Given as goal
 
 abbrev pub invariant-loop-word : goal.invariant-loop-word
-invariant-loop-word l = (l.ones + ones_of (drop l.word-index l.word-items) ≡ ones_of l.word-items) × (l.ones ≤ 32 * l.word-index)
+invariant-loop-word l = (l.ones + ones_of (drop l.word-index l.fn.words) ≡ ones_of l.fn.words) × (l.ones ≤ 32 * l.word-index)
