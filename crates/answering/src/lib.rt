@@ -11,17 +11,17 @@ use printer::{Answer, Page, Trees};
 use reader::{FileError, Payloads};
 use words::Word;
 
-// The rooms of a call, and one for the tokens of the longest file. "Limits: 1,000,000 units, depth 512, 4,096 child entries, 1,024
-// nodes, 64 records": so long are they.
+// The rooms of a call, and one for the tokens of the longest file, each lent by itself, wherever the caller has it. "Limits: 1,000,000
+// units, depth 512, 4,096 child entries, 1,024 nodes, 64 records": so long are they.
 #[derive(Drop)]
-pub struct Rooms {
-    pub tokens: [u8; 78636],
-    pub stack: [u8; 16384],
-    pub scratch: [u8; 2048],
-    pub nodes: [u8; 32768],
-    pub children: [u8; 16384],
-    pub records: [u8; 4096],
-    pub report: [u8; 64],
+pub struct Rooms<'a> {
+    pub tokens: &'a mut [u8; 78636],
+    pub stack: &'a mut [u8; 16384],
+    pub scratch: &'a mut [u8; 2048],
+    pub nodes: &'a mut [u8; 32768],
+    pub children: &'a mut [u8; 16384],
+    pub records: &'a mut [u8; 4096],
+    pub report: &'a mut [u8; 64],
 }
 
 // The line of a refusal, from the front of `out` on, and the place behind it.
@@ -36,15 +36,12 @@ fn refuse(out: &mut [u8], number: usize, place: usize) -> usize
 // The lines of a reply, by what a call returned and left. A refusal touches no room, so a report whose first word was 0 still has it;
 // an answer's report begins with its number, which is not 0. So the report tells which it is; what the call returned would need the list
 // of the answers' numbers again.
-fn tell(returned: Returned, productions: &[u8], rooms: &Rooms, out: &mut [u8]) -> usize {
+fn tell(returned: Returned, productions: &[u8], rooms: &Rooms<'_>, out: &mut [u8]) -> usize {
     let Returned { number, value } = returned;
-    let Rooms {
-        nodes,
-        children,
-        records,
-        report,
-        ..
-    } = rooms;
+    let nodes = &*rooms.nodes;
+    let children = &*rooms.children;
+    let records = &*rooms.records;
+    let report = &*rooms.report;
     let answer = u32::get(report, 0);
     if answer == 0 {
         return refuse(out, number as usize, value as usize);
@@ -71,9 +68,17 @@ fn tell(returned: Returned, productions: &[u8], rooms: &Rooms, out: &mut [u8]) -
 }
 
 // The call on the payloads and the widened tokens, and its lines. "start location 0"
-fn answer(payloads: Payloads<'_>, rooms: &mut Rooms, out: &mut [u8]) -> usize {
-    let end = 12 * reader::widen_tokens(payloads.tokens.bytes, &mut rooms.tokens);
-    u32::put(&mut rooms.report, 0, 0);
+fn answer(payloads: Payloads<'_>, rooms: &mut Rooms<'_>, out: &mut [u8]) -> usize {
+    // Each room is lent on by a name of its own.
+    let tokens = &mut *rooms.tokens;
+    let stack = &mut *rooms.stack;
+    let scratch = &mut *rooms.scratch;
+    let nodes = &mut *rooms.nodes;
+    let children = &mut *rooms.children;
+    let records = &mut *rooms.records;
+    let report = &mut *rooms.report;
+    let end = 12 * reader::widen_tokens(payloads.tokens.bytes, tokens);
+    u32::put(report, 0, 0);
     let returned = chamrolak_parse(
         payloads.sizes.bytes,
         payloads.actions.bytes,
@@ -82,21 +87,21 @@ fn answer(payloads: Payloads<'_>, rooms: &mut Rooms, out: &mut [u8]) -> usize {
         payloads.rights.bytes,
         payloads.items.bytes,
         payloads.sets.bytes,
-        &rooms.tokens[..end],
+        &tokens[..end],
         0,
         1000000,
-        &mut rooms.stack,
-        &mut rooms.scratch,
-        &mut rooms.nodes,
-        &mut rooms.children,
-        &mut rooms.records,
-        &mut rooms.report,
+        stack,
+        scratch,
+        nodes,
+        children,
+        records,
+        report,
     );
     tell(returned, payloads.productions.bytes, rooms, out)
 }
 
 // What the program prints for a file, from the front of `out` on, and the place behind it.
-pub fn fill(file: &[u8], rooms: &mut Rooms, out: &mut [u8]) -> usize {
+pub fn fill(file: &[u8], rooms: &mut Rooms<'_>, out: &mut [u8]) -> usize {
     match reader::read_file(file) {
         Err(FileError { refusal, place }) => refuse(out, refusal.number(), place),
         Ok(payloads) => answer(payloads, rooms, out),

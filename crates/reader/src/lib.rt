@@ -62,7 +62,7 @@ pub struct FileError {
 
 // A record that is not refused, with its payload's length: one to skip, or the next of the payloads.
 #[derive(Clone, Copy, Debug, PartialEq, Eq, Hash)]
-enum Record {
+pub enum Record {
     Skipped(usize),
     Wanted(usize),
 }

@@ -36,22 +36,18 @@ fn read_full<R: Read>(input: &mut R, buf: &mut [u8]) -> io::Result<usize>
 }
 
 fn answer(rt: &HostRuntime, file: &[u8]) -> io::Result<()> {
-    let mut rooms = rooms();
+    let mut rooms = Rooms {
+        tokens: &mut zeros(),
+        stack: &mut zeros(),
+        scratch: &mut zeros(),
+        nodes: &mut zeros(),
+        children: &mut zeros(),
+        records: &mut zeros(),
+        report: &mut zeros(),
+    };
     let mut out = zeros::<524288>();
     let end = answering::fill(file, &mut rooms, &mut out);
     print(rt, &out, end)
-}
-
-fn rooms() -> Rooms {
-    Rooms {
-        tokens: zeros(),
-        stack: zeros(),
-        scratch: zeros(),
-        nodes: zeros(),
-        children: zeros(),
-        records: zeros(),
-        report: zeros(),
-    }
 }
 
 // Its contract tells the length alone: a proof that has so many zeros before it would unfold them one by one.
