@@ -4,10 +4,12 @@ use Rattle.std.proofs.Math.Bool.{true, false}
 use Rattle.std.proofs.Math.Path.{refl}
 use Prim.Native.Nat.{ℕ, zero, suc, ◌-◌, ◌<◌}
 use Rattle.std.proofs.Common.{arith}
-use Rattle.rules.specs.declared.Cell.TheVariants.{Reduce, Error}
+use Rattle.rules.specs.declared.Cell.{Cell}
+use Rattle.rules.specs.declared.Cell.TheVariants.{Shift, Reduce, Error}
 use Rattle.rules.specs.declared.ProdNo.{ProdNo}
+use Rattle.rules.specs.declared.StateNo.{StateNo}
 use Rattle.rules.specs.Tables.{size}
-use Rattle.model.specs.Model.{Call, World, reduce, fail, formed_at, main_look, main_reduce, column_reduce, simulate_reduce, simulate_over}
+use Rattle.model.specs.Model.{Call, World, reduce, fail, further, formed_at, main_look, main_reduce, column_reduce, search_look, simulate_reduce, simulate_over}
 
 module _ (C : Call) (w : World) where
   pub main_more : (token : Bool) (p : ℕ) → (p ≡ 0 → ⊥) → main_reduce C w token p ≡ reduce C w p
@@ -36,3 +38,10 @@ module _ (C : Call) (w : World) where
   unfolding main_look
   main_fails true = refl
   main_fails false = refl
+
+  -- what the `else` of `let Cell::Shift(s) = cell else ..` tells: whichever cell it is, the search goes on
+  pub no_shift : (cell : Cell) → ((s : StateNo) → cell ≡ Shift s → ⊥) → search_look C w cell ≡ further C w
+  unfolding search_look
+  no_shift (Shift s) h = absurd (h s refl)
+  no_shift (Reduce p) h = refl
+  no_shift Error h = refl
