@@ -1,6 +1,7 @@
 // What a look does to the numbers of a run: it is counted, it ends the run, it goes on in another mode, it reads a token.
 // Each function is the definition of the same name of the byte model. None writes to a room. The functions of a state are no methods:
-// an `impl St` stands in crate `model` only, which has no functions, and the must-fail edits of this crate hold them here.
+// an `impl St` stands in crate `model` only, which has no functions but the derived ones, and the must-fail edits of this crate hold
+// them here.
 #![tactic(auto)]
 
 ghost use Rattle.std.specs.Prelude.{Some, List, ◌≡◌, ℕ, ◌+◌, ◌<◌, ◌^◌, eqb};

@@ -33,7 +33,7 @@ pub fn put_words<const N: usize>(s: &mut [u8], at: usize, words: [u32; N])
 }
 
 // "kind (0 token, 1 mark, 2 production), number (of that token, record or production)". Functions and no `From`, which would have to
-// stand in `rules`, and that has no functions.
+// stand in `rules`, and that has none but the derived ones.
 pub fn kind_of(w: What) -> u32
     ensures { result ≡ kind_of w }
 {

@@ -1,6 +1,7 @@
 // The form of the check's tests, over a test of a number as a parameter: the first place at which it is false, and whether it holds
 // of every number below a bound, or of some. `position`, `all` and `any` of a range would do the same; these have the rules' definitions
-// in their contracts, so that a caller's answer only names the test.
+// in their contracts, so that a caller's answer only names the test. The test of a production is handed a place besides, which its scan
+// carries.
 ghost use Rattle.std.specs.Prelude.{ℕ, Bool, ◌≡◌, ◌<◌, ◌^◌};
 ghost use Rattle.rules.specs.Basics.{all_below, any_below};
 ghost use Rattle.rules.specs.Tables.{production_count, right_start};
